@@ -6,6 +6,7 @@ use lib.Pow.{pow-pos}
 use mathlib.Core.Logic.{⊎-elim}
 use Rattle.exact.specs.Formula.{Frac, _//_, _≼_, _⊹_, _·_, _↥_, Side, below, above, other, lies, at-most, at-least, Formula, _↑_, bounds, by-power, lies-power, Enclosed}
 use Rattle.exact.proofs.Fractions.{_≈_, ≼-refl, ≼-total, ≈-sym, ↥-swap, ↥-mul, ↥-mul', ↥-add, ↥-product, ↥-raise, ↥-lower, lies-refl, lies-≈, lies-trans, lies-·, lies-↥, lies-root, over-≼}
+use Rattle.exact.proofs.Wholes.{square, pow-one}
 use Rattle.exact.proofs.Formulas.{consistent, enclosed-power}
 use Rattle.exact.proofs.Order.{_⊑_}
 
@@ -63,6 +64,17 @@ power-power {s} {t} {t'} {x} {e} {e'} h k =
           (lies-↥ (e .den) (k .whole))
           (lies-trans (lies-≈ s (↥-swap t _ _)) (lies-trans (lies-↥ (e' .num) (h .whole)) (lies-≈ s (↥-mul x _ _)))));
     }
+
+-- Exponents of one value have one power.
+pub power-exponent : {s : Side} {t x e e' : Frac} → e ≈ e' → lies-power s t x e → lies-power s t x e'
+power-exponent {s} {t} {x} {e} {e'} h = carry s x e e' t (rw (h .cross) (lies-refl s _))
+
+-- A number is the square root of its square.
+pub power-half : {s : Side} {r u : Frac} → lies s (r · r) u → lies-power s r u (1 // 2)
+power-half {s} {r} {u} h =
+    let two : r ↥ 2 ≈ r · r = record { cross = rw (square (r .num), square (r .den)) } in
+    let one : u ≈ u ↥ 1 = record { cross = rw (pow-one (u .num), pow-one (u .den)) } in
+    record { whole = lies-trans (lies-≈ s two) (lies-trans h (lies-≈ s one)) }
 
 -- Of one formula, where it is at least 1: a larger exponent gives no less. Where it is at most 1: no more.
 module _ {a : Formula} {e e' : Frac} (h : e ≼ e') where

@@ -6,7 +6,7 @@ use lib.Dec.{leb, lit<, lit≤}
 use borrow.Author.Tests.{leb-true, leb-false}
 use native.Mathlib.Decide.{decLe}
 use mathlib.Core.Logic.{inl, inr}
-use native.Mathlib.Nat.{le-antisymm, lt-of-not-le, not-le-of-lt, eq-zero-or-pos, pow-zero, pow-le-pow-left, pow-le-pow-right, mul-le-mul, lt-of-lt-of-le, lt-of-le-of-lt, le-trans, le-of-eq}
+use native.Mathlib.Nat.{le-antisymm, lt-of-not-le, eq-zero-or-pos, pow-suc, pow-le-pow-left, pow-le-pow-right, mul-le-mul, lt-of-lt-of-le, lt-of-le-of-lt, le-trans, le-of-eq}
 use native.Mathlib.Omega.{arith}
 use Rattle.exact.proofs.Wholes.{pow-one, root-lt}
 use Rattle.number.specs.Root.{Root, greatest, rootOf}
@@ -26,6 +26,9 @@ root-greatest {k} {n} {r} p t h =
 
 -- ── The root by name ────────────────────────────────────────────────────────────────────────
 
+zero-pow : (k : ℕ) → 0 < k → 0 ^ k ≡ 0
+zero-pow (suc k) h = rw (pow-suc 0 k) (omega arith)
+
 -- What the search finds passes, or is 0, and no later number up to the last does.
 pub record Found (test : ℕ → Bool) (last g : ℕ) : Type 0 where
   pub passes : 0 < g → test g ≡ true
@@ -41,25 +44,23 @@ greatest-found test (suc last) = go (test (suc last)) refl (greatest-found test 
     go false e was =
         record { passes = was .passes; fails = λ t h k. elim (decLe t last) [ yes l ↦ was .fails t h l | no l ↦ rw (le-antisymm k (lt-of-not-le l)) e ] }
 
-base-le-power : (k n r : ℕ) → Root k n r → r ≤ r ^ k
-base-le-power zero n r h = absurd (omega (arith, rw (pow-zero r) at (h .at-most), rw (pow-zero (r + 1)) at (h .next-above)))
-base-le-power (suc k) n zero h = zero-le
-base-le-power (suc k) n (suc r) h = le-trans (le-of-eq (sym (pow-one (suc r)))) (pow-le-pow-right (omega arith) (omega arith))
+base-le-power : (k r : ℕ) → 0 < k → 0 < r → r ≤ r ^ k
+base-le-power k r kpos rpos = le-trans (le-of-eq (sym (pow-one r))) (pow-le-pow-right rpos kpos)
 
--- The root is what its name says.
-pub root-named : {k n r : ℕ} → Root k n r → r ≡ rootOf k n
+-- The number of that name is the whole root, and so any whole root has that name.
+pub rootOf-is : (k n : ℕ) → 0 < k → Root k n (rootOf k n)
 unfolding rootOf
-root-named {k} {n} {r} h =
-    let g : ℕ = greatest (λ t. leb (t ^ k) n) n in
-    let found : Found (λ t. leb (t ^ k) n) n g = greatest-found _ n in
-    le-antisymm (least g found) (elim (eq-zero-or-pos g) [ inl e ↦ rw e zero-le | inr pos ↦ root-greatest h g (leb-true _ _ (found .passes pos)) ])
+rootOf-is k n kpos = go _ (greatest-found (λ r. leb (r ^ k) n) n)
   where
-    least : (g : ℕ) → Found (λ t. leb (t ^ k) n) n g → r ≤ g
-    least g found =
-        elim (decLe r g) [
-          | yes l ↦ l
-          | no l ↦ absurd (not-le-of-lt (leb-false _ _ (found .fails r (lt-of-not-le l) (le-trans (base-le-power k n r h) (h .at-most)))) (h .at-most))
-        ]
+    go : (g : ℕ) → Found (λ r. leb (r ^ k) n) n g → Root k n g
+    go g found =
+        record {
+          at-most = elim (eq-zero-or-pos g) [ inl e ↦ rw (e, zero-pow k kpos) zero-le | inr pos ↦ leb-true _ _ (found .passes pos) ];
+          next-above = elim (decLe (g + 1) n) [ yes l ↦ leb-false _ _ (found .fails (g + 1) (omega arith) l) | no l ↦ lt-of-lt-of-le (lt-of-not-le l) (base-le-power k (g + 1) kpos (omega arith)) ];
+        }
+
+pub root-named : {k n r : ℕ} → 0 < k → Root k n r → r ≡ rootOf k n
+root-named kpos h = root-unique h (rootOf-is _ _ kpos)
 
 -- ── Digit after digit ───────────────────────────────────────────────────────────────────────
 
