@@ -29,7 +29,7 @@ P-ME-mono (suc l) h = omega arith
 main-emission-mono : {es es' : List (Engine ℕ)} → Engines _≤_ es es' → main-emission es ⊑ main-emission es'
 unfolding main-emission
 main-emission-mono no-more = ⊑-refl _
-main-emission-mono (one-more {limit = l} h c r) = ⊑-sum (⊑-product (⊑-lit (over-mono 100 (P-ME-mono l h))) (emission-mono 190 c)) (main-emission-mono r)
+main-emission-mono (one-more {limit = l} h c r) = ⊑-sum (⊑-product (⊑-lit (over-mono 100 (P-ME-mono l h))) (emission-mono _ c)) (main-emission-mono r)
 
 rated-mono : {es es' : List (Engine ℕ)} → Engines _≤_ es es' → rated es ≤ rated es'
 unfolding rated
@@ -50,7 +50,7 @@ index-mono : (s : Particulars) {es es' : List (Engine ℕ)} {c c' : Consumption 
 unfolding index emissions transport
 index-mono s m m' e c v =
     ⊑-quotient
-    (⊑-sum (main-emission-mono e) (⊑-product (P-AE-mono (s .auxiliary) (rated-mono e)) (emission-mono 215 c)))
+    (⊑-sum (main-emission-mono e) (⊑-product (P-AE-mono (s .auxiliary) (rated-mono e)) (emission-mono _ c)))
     (⊑-product (⊑-product (⊑-refl _) v) (⊑-refl _))
 
 -- ── Two records that are alike, read the other way round ────────────────────────────────────

@@ -2,11 +2,13 @@
 use Prim.Native.Nat.{ℕ, _+_, _*_, _<_}
 use mathlib.Core.Bool.{Bool, true, false}
 use mathlib.Core.List.{List, [], _∷_}
+use mathlib.Core.Path.{_≡_, refl}
 use native.Mathlib.Omega.{arith}
 use lib.Dec.{lit≤, lit<}
 use Rattle.exact.specs.Formula.{Frac, _//_, _≼_, Formula, Enclosed}
-use Rattle.exact.specs.Ship.{Deadweight, GrossTonnage, bulk, diesel, heavy, Consumption, recorded, neither, Engine, rule, declared, Figures}
-use Rattle.exact.specs.Index.{C-F, emission, P-ME, main-emission, rated, by-rule, P-AE, Capacity, light-cargo, f-c, f-m, V-ref, sum-P-ME, speed, emissions, transport, index}
+use Rattle.exact.specs.Ship.{Deadweight, GrossTonnage, bulk, container, diesel, heavy, Consumption, recorded, neither, Engine, rule, declared, Figures}
+use Rattle.exact.specs.Index.{whole, light-vehicles, C-F, emission, P-ME, main-emission, rated, by-rule, P-AE, Capacity, light-cargo, f-c, f-m, V-ref, sum-P-ME, speed, emissions, transport, index}
+use Rattle.exact.proofs.Fractions.{_≈_}
 use Rattle.exact.proofs.Formulas.{value, Plain, plain, enclosed-wider}
 
 -- Ship S with its ice class and its main engine's consumption.
@@ -18,6 +20,18 @@ S ice uses =
       auxiliary-uses = recorded 2000 diesel;
       method = declared 1400;
     }
+
+-- At exactly 0.55 and 0.35 f_c is 1, as document 01 has it, and a container ship of 80,000 t has a Capacity of 56,000.
+pub at-limits : (light-cargo (record { tonnes = 55 }) 100 ≡ whole 1)
+    × (light-vehicles (record { tonnes = 35 }) (record { gt = 100 }) ≡ whole 1)
+    × (value (Capacity container (record { tonnes = 80000 })) ≈ 56000 // 1)
+unfolding light-cargo light-vehicles Capacity value
+at-limits = (refl, refl, omega arith)
+
+-- P_ME in hundredths and P_AE in thousandths of a kW.
+pub powers : (P-ME 8000 7000 ≡ 581000) × (P-ME 8000 7228 ≡ 599924) × (P-ME 8000 7229 ≡ 600000) × (by-rule 9999 ≡ 499950) × (by-rule 10000 ≡ 500000) × (by-rule 10001 ≡ 500025)
+unfolding P-ME by-rule
+powers = (refl, refl, refl, refl, refl, refl)
 
 pub record Worked : Type 0 where
   pub ship : Figures ℕ
