@@ -38,25 +38,31 @@ module _ (n m : ℕ) {d : ℕ} (pos : 0 < d) where
   not-below : m * d ≤ n * 100 → (n // d <? m // 100) ≡ false
   not-below h = rw (suc-pred-eq-of-pos pos) (le-ltb _ _ h)
 
+taken : {A : Type 0} {b : Bool} (x y : A) → b ≡ true → if b x y ≡ x
+taken x y e = rw e
+
+left : {A : Type 0} {b : Bool} (x y : A) → b ≡ false → if b x y ≡ y
+left x y e = rw e
+
 -- f_c of a bulk carrier is 1 from R = 0.55 on, and the power below it.
 module _ (dwt : Deadweight) (volume : ℕ) (pos : 0 < volume) where
   pub light-cargo-none : 55 * volume ≤ dwt .tonnes * 100 → light-cargo dwt volume ≡ whole 1
   unfolding light-cargo
-  light-cargo-none h = rw (not-below (dwt .tonnes) 55 pos h)
+  light-cargo-none h = left _ _ (not-below (dwt .tonnes) 55 pos h)
 
   pub light-cargo-some : dwt .tonnes * 100 < 55 * volume → light-cargo dwt volume ≡ whole 1 ⊘ lit (dwt .tonnes // volume) ↑ (15 // 100)
   unfolding light-cargo
-  light-cargo-some h = rw (is-below (dwt .tonnes) 55 pos h)
+  light-cargo-some h = taken _ _ (is-below (dwt .tonnes) 55 pos h)
 
 -- f_c of a vehicle carrier is 1 from 0.35 on, and the power below it.
 module _ (dwt : Deadweight) (gross : GrossTonnage) (pos : 0 < gross .gt) where
   pub light-vehicles-none : 35 * gross .gt ≤ dwt .tonnes * 100 → light-vehicles dwt gross ≡ whole 1
   unfolding light-vehicles
-  light-vehicles-none h = rw (not-below (dwt .tonnes) 35 pos h)
+  light-vehicles-none h = left _ _ (not-below (dwt .tonnes) 35 pos h)
 
   pub light-vehicles-some : dwt .tonnes * 100 < 35 * gross .gt → light-vehicles dwt gross ≡ whole 1 ⊘ (lit (dwt .tonnes // gross .gt) ⊘ percent 35) ↑ (8 // 10)
   unfolding light-vehicles
-  light-vehicles-some h = rw (is-below (dwt .tonnes) 35 pos h)
+  light-vehicles-some h = taken _ _ (is-below (dwt .tonnes) 35 pos h)
 
 -- V_avg - m_V: up to 20 knots 5 % is less than one knot, and from there one knot is less.
 pub margin-fraction : (v : Frac) → v ≼ 20 // 1 → Enclosed (less-margin (lit v)) (95 // 100 · v) (95 // 100 · v)

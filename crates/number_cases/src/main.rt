@@ -1,0 +1,171 @@
+// Works out the cases that it reads, for the tests from outside: a case is five little-endian words of 8 bytes, what is
+// asked and up to four numbers, and its answer is a line of numbers, or `-` where the numbers are outside the function's domain.
+// Asked is 1 the square root of a; 2 its cube root; 3 the cube root of a/b; 4 a/b in millionths, rounded down and up;
+// 5 the power (a/b)^(c/d).
+ghost use Prim.Native.Nat.{_<_};
+use libc::STDIN_FILENO;
+use libc::STDOUT_FILENO;
+
+struct Case {
+    asked: u64,
+    a: u64,
+    b: u64,
+    c: u64,
+    d: u64,
+}
+
+struct Word {
+    whole: bool,
+    value: u64,
+}
+
+fn wide(x: u8) -> u64
+    ensures { λ r. ⌜ r < 256 ⌝ }
+{
+    x as u64
+}
+
+fn half(a: u8, b: u8, c: u8, d: u8) -> u64
+    ensures { λ r. ⌜ r < 4294967296 ⌝ }
+{
+    wide(a) + 256 * wide(b) + 65536 * wide(c) + 16777216 * wide(d)
+}
+
+fn next_word() -> Word {
+    let mut b = [0u8; 8];
+    let got = io::read_full(STDIN_FILENO, &mut b);
+    let value = half(b[0], b[1], b[2], b[3]) + 4294967296 * half(b[4], b[5], b[6], b[7]);
+    Word {
+        whole: got == 8,
+        value,
+    }
+}
+
+fn outside() {
+    io::write_all(STDOUT_FILENO, b"-\n");
+}
+
+fn one(x: u64) {
+    io::print_decimal(STDOUT_FILENO, x);
+    io::write_all(STDOUT_FILENO, b"\n");
+}
+
+fn two(x: u64, y: u64) {
+    io::print_decimal(STDOUT_FILENO, x);
+    io::write_all(STDOUT_FILENO, b" ");
+    one(y);
+}
+
+fn ratio(n: u64, d: u64) {
+    if d == 0 {
+        outside();
+        return;
+    }
+    if 1099511627776 <= n {
+        outside();
+        return;
+    }
+    if 8 * n < d {
+        outside();
+        return;
+    }
+    let r = number::ratio::cube_root(n, d);
+    io::print_decimal(STDOUT_FILENO, r.scale);
+    io::write_all(STDOUT_FILENO, b" ");
+    two(r.low, r.high);
+}
+
+fn millionths(n: u64, d: u64) {
+    if d == 0 {
+        outside();
+        return;
+    }
+    if 1000000000000000000 < d {
+        outside();
+        return;
+    }
+    if 8796093022208 <= n {
+        outside();
+        return;
+    }
+    two(
+        number::division::floor_scaled(n, d, 10, 6),
+        number::division::ceil_scaled(n, d, 10, 6),
+    );
+}
+
+fn raised(a: u64, b: u64, p: u64, q: u64) {
+    if a < b {
+        outside();
+        return;
+    }
+    if 4294967296 <= a {
+        outside();
+        return;
+    }
+    if b * 1048576 < a {
+        outside();
+        return;
+    }
+    if q <= p {
+        outside();
+        return;
+    }
+    if 16777216 <= q {
+        outside();
+        return;
+    }
+    if b == 0 {
+        outside();
+        return;
+    }
+    let r = power::power(a, b, p, q);
+    two(r.lo, r.hi);
+}
+
+fn answer(k: Case) {
+    let asked = k.asked;
+    match asked {
+        1 => one(number::root::square_root(k.a)),
+        2 => one(number::root::cube_root(k.a)),
+        3 => ratio(k.a, k.b),
+        4 => millionths(k.a, k.b),
+        5 => raised(k.a, k.b, k.c, k.d),
+        _ => outside(),
+    }
+}
+
+// One case, and whether it was whole.
+fn next_case() -> bool {
+    let asked = next_word();
+    let a = next_word();
+    let b = next_word();
+    let c = next_word();
+    let d = next_word();
+    let whole = d.whole;
+    if whole {
+        answer(Case {
+            asked: asked.value,
+            a: a.value,
+            b: b.value,
+            c: c.value,
+            d: d.value,
+        });
+    }
+    whole
+}
+
+// At most a million cases; a piece shorter than a case ends the run.
+fn run() {
+    let mut n: u64 = 0;
+    while n < 1000000 {
+        if !next_case() {
+            return;
+        }
+        n += 1;
+    }
+}
+
+fn main() {
+    run();
+}
