@@ -11,7 +11,7 @@ use Rattle.ship.specs.declared.Deadweight.{Deadweight}
 use Rattle.ship.specs.declared.Range.{Range}
 use Rattle.ship.specs.declared.Consumption.{Consumption}
 use Rattle.ship.specs.declared.Engine.{Engine}
-use Rattle.ship.specs.declared.Particulars.{Particulars}
+use Rattle.ship.specs.declared.Trial.{Trial}
 use Rattle.ship.specs.declared.Ship.{Ship}
 
 -- Types and fuels by number, from 1.
@@ -50,15 +50,15 @@ unfoldable pub auxiliary-of : ℕ → ℕ → exact.Auxiliary
 auxiliary-of method power = if (eqb method 2) (exact.table power) exact.rule
 
 -- Speed methods by number, from 1.
-unfoldable pub method-of : Particulars → Range → exact.Method ranges.Range
-method-of p speed =
+unfoldable pub method-of : ℕ → Range → Trial → exact.Method ranges.Range
+method-of method speed t =
     getD
     (exact.declared (range-of speed)
-    ∷ exact.trial (range-of speed) (p .trial .power)
-    ∷ exact.design-trial (range-of speed) (p .trial .power) (deadweight-of (p .trial .deadweight))
+    ∷ exact.trial (range-of speed) (t .power)
+    ∷ exact.design-trial (range-of speed) (t .power) (deadweight-of (t .deadweight))
     ∷ exact.statistical
     ∷ [])
-    (p .method - 1)
+    (method - 1)
     exact.statistical
 
 unfoldable pub figures : Ship → exact.Figures ranges.Range
@@ -75,5 +75,5 @@ figures s =
       };
       engines = mains (p .used) (s .engines);
       auxiliary-uses = uses-of (s .auxiliary);
-      method = method-of p (s .speed);
+      method = method-of (p .method) (s .speed) (p .trial);
     }
