@@ -1,0 +1,4 @@
+pub mod Numbers
+pub mod Checks
+pub mod Parts
+pub mod Runs

@@ -1,0 +1,171 @@
+-- Laws of little-endian numbers, once over the width and the place.
+-- Assumes nothing.
+use Prim.Native.Nat.{ℕ, zero, suc, _+_, _*_, _/_, _%_, _^_, _-_, _≤_, _<_}
+use mathlib.Core.Path.{_≡_, refl, sym, ap, ap₂, _∙_}
+use mathlib.Core.List.{List, [], _∷_, _++_, append-nil}
+use mathlib.Core.Bool.{Bool, true, false, _&&_}
+use native.Mathlib.Nat.{pow-succ', pow-le-pow-right, zero-add}
+use native.Mathlib.Numerals.{add-one}
+use native.Mathlib.Omega.{arith}
+use borrow.Author.Tests.{eq-eqb, ne-eqb}
+use lib.Dec.{eqb, lit<}
+use lib.ListN.{length, getD, take, drop, set, length-drop, drop-of-length-le}
+use lib.Seq.{drop-cons, length-take-le, paste-suc, take-all}
+use Rattle.fields.specs.Numbers.{bytes-of, value-of, number-at}
+
+pub bytes-of-length : (w n : ℕ) → length (bytes-of w n) ≡ w
+unfolding bytes-of
+bytes-of-length zero n = refl
+bytes-of-length (suc w) n = ap suc (bytes-of-length w (n / 256))
+
+-- ── There and back ──────────────────────────────────────────────────────────────────────────
+
+-- A number that fits its width is read back.
+pub value-bytes : (w n : ℕ) → n < 256 ^ w → value-of (bytes-of w n) ≡ n
+unfolding bytes-of value-of
+value-bytes zero n h = omega arith
+value-bytes (suc w) n h =
+    let k : n < 256 * 256 ^ w = rw pow-succ' at h in
+    let ih : value-of (bytes-of w (n / 256)) ≡ n / 256 = value-bytes w (n / 256) (omega arith) in
+    omega arith
+
+-- Every element is a byte.
+abbrev pub Bytes : List ℕ → Type 0
+Bytes [] = Unit {0}
+Bytes (x ∷ xs) = (x < 256) × Bytes xs
+
+pub each-byte : (xs : List ℕ) → ((i : ℕ) → getD xs i 0 < 256) → Bytes xs
+each-byte [] h = tt
+each-byte (x ∷ xs) h = (h 0, each-byte xs (λ i. h (suc i)))
+
+pub bytes-drop : (n : ℕ) (xs : List ℕ) → Bytes xs → Bytes (drop n xs)
+bytes-drop zero xs h = h
+bytes-drop (suc n) [] h = tt
+bytes-drop (suc n) (x ∷ xs) h = bytes-drop n xs (h .1)
+
+pub bytes-take : (n : ℕ) (xs : List ℕ) → Bytes xs → Bytes (take n xs)
+bytes-take zero xs h = tt
+bytes-take (suc n) [] h = tt
+bytes-take (suc n) (x ∷ xs) h = (h .0, bytes-take n xs (h .1))
+
+-- Bytes that are read are written back.
+pub bytes-value : (xs : List ℕ) → Bytes xs → bytes-of (length xs) (value-of xs) ≡ xs
+unfolding bytes-of value-of
+bytes-value [] h = refl
+bytes-value (x ∷ xs) h =
+    let b = h .0 in
+    let q : (x + 256 * value-of xs) / 256 ≡ value-of xs = omega arith in
+    let r : (x + 256 * value-of xs) % 256 ≡ x = omega arith in
+    ap₂ {C = List ℕ} (λ y ys. y ∷ ys) r (ap (bytes-of (length xs)) q ∙ bytes-value xs (h .1))
+
+pub bytes-number : (b : List ℕ) (at w : ℕ) → Bytes b → at + w ≤ length b → bytes-of w (number-at b at w) ≡ take w (drop at b)
+unfolding number-at
+bytes-number b at w h k =
+    let f = take w (drop at b) in
+    let m : w ≤ length (drop at b) = simp length-drop (omega arith) in
+    let n : length f ≡ w = length-take-le w (drop at b) m in
+    rw n at (bytes-value f (bytes-take w (drop at b) (bytes-drop at b h)))
+
+-- ── Read from the highest byte down ─────────────────────────────────────────────────────────
+
+pub number-none : (b : List ℕ) (at : ℕ) → number-at b at 0 ≡ 0
+unfolding number-at value-of
+number-none b at = refl
+
+-- A field's lowest byte, and the rest.
+pub number-step : (b : List ℕ) (at w : ℕ) → at < length b → number-at b at (suc w) ≡ getD b at 0 + 256 * number-at b (at + 1) w
+unfolding number-at value-of
+number-step b at w h = rw (drop-cons b at 0, add-one)
+
+value-below : (xs : List ℕ) → Bytes xs → value-of xs < 256 ^ length xs
+unfolding value-of
+value-below [] h = omega arith
+value-below (x ∷ xs) h =
+    let b = h .0 in
+    let ih = value-below xs (h .1) in
+    rw pow-succ' (omega arith)
+
+-- A field of up to 7 bytes leaves room for one more in 64 bits.
+pub number-small : (b : List ℕ) (at w : ℕ) → Bytes b → at + w ≤ length b → w ≤ 7 → number-at b at w < 2 ^ 56
+unfolding number-at
+number-small b at w h k m =
+    let f = take w (drop at b) in
+    let n : length f ≡ w = length-take-le w (drop at b) (simp length-drop (omega arith)) in
+    let l : length f ≤ 7 = omega arith in
+    let p : 256 ^ length f ≤ 256 ^ 7 = pow-le-pow-right (lit< tt) l in
+    omega (arith, value-below f (bytes-take w (drop at b) (bytes-drop at b h)))
+
+-- One byte more of a number that is read from its highest byte down.
+module _ (b : List ℕ) (at w left n : ℕ) (more : 0 < left) (h : left ≤ w) (k : at + w ≤ length b) (e : n ≡ number-at b (at + left) (w - left)) where
+  pub number-again : n * 256 + getD b (at + (left - 1)) 0 ≡ number-at b (at + (left - 1)) (w - (left - 1))
+  number-again =
+      let p : at + (left - 1) + 1 ≡ at + left = omega arith in
+      let q : w - (left - 1) ≡ suc (w - left) = omega arith in
+      let s : number-at b (at + (left - 1)) (suc (w - left)) ≡ getD b (at + (left - 1)) 0 + 256 * number-at b (at + left) (w - left) = rw p at (number-step b (at + (left - 1)) (w - left) (omega arith)) in
+      rw q (omega arith)
+
+  pub number-room : Bytes b → w ≤ 8 → n < 2 ^ 56
+  number-room bs m = rw e (number-small b (at + left) (w - left) bs (omega arith) (omega arith))
+
+-- ── Zeros, byte by byte ─────────────────────────────────────────────────────────────────────
+
+value-drop : (xs : List ℕ) (i : ℕ) → i < length xs → value-of (drop i xs) ≡ getD xs i 0 + 256 * value-of (drop (i + 1) xs)
+unfolding value-of
+value-drop xs i h = rw (drop-cons xs i 0, add-one)
+
+eqb-sum : (x y : ℕ) → eqb (x + 256 * y) 0 ≡ eqb x 0 && eqb y 0
+eqb-sum zero zero = refl
+eqb-sum zero (suc y) = ne-eqb (0 + 256 * suc y) 0 (omega arith) ∙ sym (ne-eqb (suc y) 0 (omega arith))
+eqb-sum (suc x) y = ne-eqb (suc x + 256 * y) 0 (omega arith) ∙ sym (ap (λ (b : Bool). b && eqb y 0) (ne-eqb (suc x) 0 (omega arith)))
+
+and-assoc : (a b c : Bool) → a && (b && c) ≡ a && b && c
+and-assoc true b c = refl
+and-assoc false b c = refl
+
+and-true : (a : Bool) → a && true ≡ a
+and-true true = refl
+and-true false = refl
+
+pub zero-step : (z : Bool) (xs : List ℕ) (i : ℕ) → i < length xs
+    → z && eqb (value-of (drop i xs)) 0 ≡ z && eqb (getD xs i 0) 0 && eqb (value-of (drop (i + 1) xs)) 0
+zero-step z xs i h =
+    rw (value-drop xs i h, eqb-sum (getD xs i 0) (value-of (drop (i + 1) xs))) (and-assoc z (eqb (getD xs i 0) 0) (eqb (value-of (drop (i + 1) xs)) 0))
+
+pub zero-end : (z : Bool) (xs : List ℕ) (i : ℕ) → length xs ≤ i → z && eqb (value-of (drop i xs)) 0 ≡ z
+unfolding value-of
+zero-end z xs i h = rw (drop-of-length-le xs h) (and-true z)
+
+-- ── A number stored byte by byte ────────────────────────────────────────────────────────────
+
+bytes-suc : (w n : ℕ) → bytes-of (suc w) n ≡ n % 256 ∷ bytes-of w (n / 256)
+unfolding bytes-of
+bytes-suc w n = refl
+
+module _ (l : List ℕ) (i k rest : ℕ) (h : i < length l) (e : drop i l ≡ bytes-of (suc k) rest) where
+  next-byte : getD l i 0 ≡ rest % 256
+  next-byte = cc (drop-cons l i 0 h, bytes-suc k rest)
+
+  left-over : drop (i + 1) l ≡ bytes-of k (rest / 256)
+  left-over = rw add-one (cc (drop-cons l i 0 h, bytes-suc k rest))
+
+-- A store takes the first i elements of s over d's to the first i + 1.
+over-step : (d s : List ℕ) (i : ℕ) → i < length d → i < length s
+    → set (take i s ++ drop i d) i (getD s i 0) ≡ take (i + 1) s ++ drop (i + 1) d
+over-step d s i hd hs = rw add-one (simp zero-add at (paste-suc d 0 s i 0 (simp zero-add hd) hs))
+
+-- A turn of the loop that stores a number's bytes over d: the byte, and what is left of the number.
+pub put-again : (d bytes : List ℕ) (v rest i : ℕ) → i < length d → bytes ≡ take i (bytes-of (length d) v) ++ drop i d
+    → drop i (bytes-of (length d) v) ≡ bytes-of (length d - i) rest
+    → (set bytes i (rest % 256) ≡ take (i + 1) (bytes-of (length d) v) ++ drop (i + 1) d)
+    × (drop (i + 1) (bytes-of (length d) v) ≡ bytes-of (length d - (i + 1)) (rest / 256))
+put-again d bytes v rest i h e f =
+    let l = bytes-of (length d) v in
+    let hl : i < length l = rw (bytes-of-length (length d) v) h in
+    let k : length d - i ≡ suc (length d - (i + 1)) = omega arith in
+    let g : drop i l ≡ bytes-of (suc (length d - (i + 1))) rest = rw k at f in
+    (rw (e, ← next-byte l i (length d - (i + 1)) rest hl g) (over-step d l i h hl), left-over l i (length d - (i + 1)) rest hl g)
+
+pub put-end : (d bytes : List ℕ) (v i : ℕ) → length d ≤ i → bytes ≡ take i (bytes-of (length d) v) ++ drop i d → bytes ≡ bytes-of (length d) v
+put-end d bytes v i h e =
+    let hl : length (bytes-of (length d) v) ≤ i = rw (bytes-of-length (length d) v) h in
+    e ∙ rw (take-all i (bytes-of (length d) v) hl, drop-of-length-le d h) (append-nil (bytes-of (length d) v))
