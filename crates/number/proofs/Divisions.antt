@@ -1,11 +1,11 @@
 -- The laws of quotients rounded down and up. Assumes nothing.
 use mathlib.Core.Path.{_≡_, sym, ap}
 use mathlib.Core.Logic.{_↔_}
-use Prim.Native.Nat.{ℕ, suc, _+_, _*_, _/_, _%_, _^_, _≤_, _<_}
-use native.Mathlib.Nat.{pow-zero, pow-suc, mul-one, pow-le-pow-right, mul-le-mul-left, mul-le-mul-right, mul-lt-mul-of-pos-right, lt-of-mul-lt-mul-right, le-of-eq, le-of-lt, le-antisymm, le-trans, lt-of-le-of-lt, lt-of-lt-of-le, div-add-mod', mod-lt}
+use Prim.Native.Nat.{ℕ, suc, _+_, _-_, _*_, _/_, _%_, _^_, _≤_, _<_}
+use native.Mathlib.Nat.{pow-zero, pow-suc, mul-one, pow-le-pow-right, mul-le-mul-left, mul-le-mul-right, mul-lt-mul-of-pos-right, lt-of-mul-lt-mul-right, le-of-eq, le-of-lt, le-antisymm, le-trans, lt-of-le-of-lt, lt-of-lt-of-le, div-add-mod', mod-lt, div-mul-le-self, lt-div-mul-add}
 use native.Mathlib.Numerals.{add-one}
 use native.Mathlib.Omega.{arith}
-use Rattle.number.specs.Division.{Divisible, Divided, Floor, Ceil}
+use Rattle.number.specs.Division.{Divisible, Divided, Floor, Ceil, ceilOf}
 
 -- ── Digit after digit ───────────────────────────────────────────────────────────────────────
 
@@ -66,6 +66,23 @@ floor-unique f g = le-antisymm (floor-greatest g _ (f .at-most)) (floor-greatest
 
 pub ceil-unique : {a d p q : ℕ} → Ceil a d p → Ceil a d q → p ≡ q
 ceil-unique f g = le-antisymm (ceil-least f _ (g .at-least)) (ceil-least g _ (f .at-least))
+
+-- By name: the quotient of the language, and the one of a little more.
+pub floor-is : (a d : ℕ) → 0 < d → Floor a d (a / d)
+floor-is a d pos = floor-divided (divided a d pos)
+
+pub ceil-is : (a d : ℕ) → 0 < d → Ceil a d (ceilOf a d)
+ceil-is a d pos =
+    record {
+      at-least = omega (arith, lt-div-mul-add {a = a + (d - 1)} pos);
+      previous-below = omega (arith, div-mul-le-self (a + (d - 1)) d);
+    }
+
+pub floor-named : {a d q : ℕ} → 0 < d → Floor a d q → q ≡ a / d
+floor-named pos f = floor-unique f (floor-is _ _ pos)
+
+pub ceil-named : {a d q : ℕ} → 0 < d → Ceil a d q → q ≡ ceilOf a d
+ceil-named pos f = ceil-unique f (ceil-is _ _ pos)
 
 -- They are equal or neighbours, and equal exactly where d divides a.
 pub floor-ceil : {a d p q : ℕ} → Floor a d p → Ceil a d q → (p ≤ q) × (q ≤ p + 1)

@@ -1,19 +1,25 @@
 -- The laws of roots of ratios, each once over the exponent. Assumes nothing.
 use mathlib.Core.Path.{_≡_, refl, sym, _∙_, ap}
-use Prim.Native.Nat.{ℕ, zero, suc, _+_, _-_, _*_, _%_, _^_, _≤_, _<_}
-use lib.Dec.{lit≤}
+use Prim.Native.Nat.{ℕ, zero, suc, _+_, _-_, _*_, _/_, _%_, _^_, _≤_, _<_}
+use mathlib.Core.Bool.{Bool, true, false}
+use mathlib.Core.Logic.{inl, inr}
+use native.Mathlib.Numerals.{add-one}
+use lib.Dec.{lit≤, eqb, ltb}
+use borrow.Author.Tests.{eqb-true, eqb-false, ltb-true, ltb-false}
+use Rattle.exact.specs.Index.{if}
 use lib.Arith.{lt-of-le-ne}
-use native.Mathlib.Nat.{mul-le-mul, one-mul, mod-eq-of-lt, zero-lt-suc, mul-le-mul-left, mul-lt-mul-of-pos-right, pow-le-pow-right, pow-zero, pow-suc, one-le-pow, mul-le-mul-right, le-of-mul-le-mul-right, le-of-lt, le-trans, le-antisymm, lt-of-lt-of-le, lt-of-not-le}
+use native.Mathlib.Nat.{eq-zero-or-pos, mul-le-mul, one-mul, mod-eq-of-lt, zero-lt-suc, mul-le-mul-left, mul-lt-mul-of-pos-right, pow-le-pow-right, pow-zero, pow-suc, one-le-pow, mul-le-mul-right, le-of-mul-le-mul-right, le-of-lt, le-trans, le-antisymm, lt-of-lt-of-le, lt-of-not-le}
 use native.Mathlib.Decide.{decLe}
 use native.Mathlib.Omega.{arith}
 use Rattle.exact.proofs.Wholes.{mul-pow, pow-one, root-le, root-lt}
 use Rattle.exact.specs.Formula.{Frac, _//_, below, above, lies-power}
 use Rattle.exact.proofs.Powers.{power-below, power-above}
-use Rattle.number.specs.Root.{Root}
-use Rattle.number.specs.Division.{Divisible, Floor, Ceil}
-use Rattle.number.specs.Ratio.{RatioRoot, Moderate, Scaled, CubeRoot}
-use Rattle.number.proofs.Roots.{root-greatest}
-use Rattle.number.proofs.Divisions.{floor-greatest, ceil-least, floor-ceil}
+use Rattle.number.specs.Root.{Root, rootOf}
+use Rattle.number.specs.Division.{Divisible, Floor, Ceil, ceilOf}
+use Rattle.number.specs.Ratio.{RatioRoot, Moderate, Scaled, CubeRoot, cubeRootOf}
+use Rattle.number.specs.declared.ratio.Rooted.{Rooted}
+use Rattle.number.proofs.Roots.{root-greatest, Found, greatest-found, rootOf-is}
+use Rattle.number.proofs.Divisions.{floor-greatest, ceil-least, floor-ceil, floor-is, ceil-is}
 
 -- ── From the quotient's whole root ──────────────────────────────────────────────────────────
 
@@ -152,3 +158,44 @@ cube-unique {n} {d} {s} {lo} {hi} {s'} {lo'} {hi'} p q =
     let e : s ≡ s' = p .units ∙ ap (λ (r : ℕ). 2 ^ r) (le-antisymm (scaled-order (q .scaled) (p .scaled)) (scaled-order (p .scaled) (q .scaled))) ∙ sym (q .units) in
     let q' : RatioRoot 3 (n * s ^ 3) d lo' hi' = rw e (q .root) in
     (e, ratio-unique (p .root) q' .0, ratio-unique (p .root) q' .1)
+
+joined : (a b : Rooted) → a .low ≡ b .low → a .high ≡ b .high → a .scale ≡ b .scale → a ≡ b
+joined a b p q r =
+    ap (λ (x : ℕ). rooted x (a .high) (a .scale)) p ∙ ap (λ (x : ℕ). rooted (b .low) x (a .scale)) q ∙ ap (rooted (b .low) (b .high)) r
+  where
+    rooted : ℕ → ℕ → ℕ → Rooted
+    rooted low high scale = record { low = low; high = high; scale = scale }
+
+-- ── By name ─────────────────────────────────────────────────────────────────────────────────
+
+module _ {n d : ℕ} (given : Moderate n d) where
+  scaled-is : (r : ℕ) → Found (λ r. ltb (n * 8 ^ r) (8 ^ 21 * d)) 21 r → Scaled n d r
+  scaled-is r found =
+      record {
+        few = found .within;
+        low = elim (decLe (r + 1) 21) [ yes l ↦ more (ltb-false _ _ (found .fails (r + 1) (omega arith) l)) | no l ↦ full (omega (arith, lt-of-not-le l, found .within)) ];
+        high = elim (eq-zero-or-pos r) [ inl e ↦ rw (e, pow-zero 8) (omega (arith, given .some, given .small)) | inr pos ↦ ltb-true _ _ (found .passes pos) ];
+      }
+    where
+      more : 8 ^ 21 * d ≤ n * 8 ^ (r + 1) → 8 ^ 20 * d ≤ n * 8 ^ r
+      more h = let x : 8 ^ 21 * d ≤ n * (8 ^ r * 8) = rw (add-one r, pow-suc 8 r) at h in omega arith
+
+      full : r ≡ 21 → 8 ^ 20 * d ≤ n * 8 ^ r
+      full e = rw e (omega (arith, given .eighth))
+
+  root-is : (x : ℕ) → RatioRoot 3 x d (rootOf 3 (x / d)) (if (eqb (rootOf 3 (x / d) ^ 3) (ceilOf x d)) (rootOf 3 (x / d)) (rootOf 3 (x / d) + 1))
+  root-is x = go (eqb (rootOf 3 (x / d) ^ 3) (ceilOf x d)) refl
+    where
+      root : Root 3 (x / d) (rootOf 3 (x / d))
+      root = rootOf-is 3 (x / d) (zero-lt-suc 2)
+
+      go : (b : Bool) → eqb (rootOf 3 (x / d) ^ 3) (ceilOf x d) ≡ b → RatioRoot 3 x d (rootOf 3 (x / d)) (if b (rootOf 3 (x / d)) (rootOf 3 (x / d) + 1))
+      go true e = ratio-root-exact (floor-is x d (given .some)) (ceil-is x d (given .some)) root (zero-lt-suc 2) (given .some) (eqb-true _ _ e)
+      go false e = ratio-root-between (floor-is x d (given .some)) (ceil-is x d (given .some)) root (eqb-false _ _ e)
+
+  pub cubeRootOf-is : CubeRoot n d (cubeRootOf n d .scale) (cubeRootOf n d .low) (cubeRootOf n d .high)
+  unfolding cubeRootOf
+  cubeRootOf-is = record { digits = _; scaled = scaled-is _ (greatest-found _ 21); units = refl; root = root-is _ }
+
+  pub cube-named : (r : Rooted) → CubeRoot n d (r .scale) (r .low) (r .high) → r ≡ cubeRootOf n d
+  cube-named r c = let same = cube-unique c cubeRootOf-is in joined r (cubeRootOf n d) (same .1) (same .2) (same .0)

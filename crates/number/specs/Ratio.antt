@@ -1,6 +1,11 @@
 -- Roots of ratios. Assumes nothing.
 use mathlib.Core.Path.{_≡_}
-use Prim.Native.Nat.{ℕ, _+_, _*_, _^_, _≤_, _<_}
+use Prim.Native.Nat.{ℕ, _+_, _-_, _*_, _/_, _^_, _≤_, _<_}
+use lib.Dec.{eqb, ltb}
+use Rattle.exact.specs.Index.{if}
+use Rattle.number.specs.Root.{greatest, rootOf}
+use Rattle.number.specs.Division.{ceilOf}
+use Rattle.number.specs.declared.ratio.Rooted.{Rooted}
 
 -- lo and hi are the k-th root of x / b, rounded down and up to whole numbers.
 pub record RatioRoot (k x b lo hi : ℕ) : Type 0 where
@@ -28,3 +33,10 @@ pub record CubeRoot (n d s lo hi : ℕ) : Type 0 where
   pub scaled : Scaled n d digits
   pub units : s ≡ 2 ^ digits
   pub root : RatioRoot 3 (n * s ^ 3) d lo hi
+
+-- The one such root.
+unfoldable pub cubeRootOf : (n d : ℕ) → Rooted
+cubeRootOf n d =
+    let s = 2 ^ greatest (λ r. ltb (n * 8 ^ r) (8 ^ 21 * d)) 21 in
+    let low = rootOf 3 (n * s ^ 3 / d) in
+    record { low = low; high = if (eqb (low ^ 3) (ceilOf (n * s ^ 3) d)) low (low + 1); scale = s }
