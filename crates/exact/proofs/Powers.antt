@@ -1,12 +1,12 @@
 -- The laws of powers, over the exponent. Assumes nothing.
 use Prim.Native.Nat.{ℕ, _*_, _^_, _≤_, _<_}
 use native.Mathlib.Omega.{arith}
-use native.Mathlib.Nat.{zero-lt-suc, suc-pred-eq-of-pos, one-le-pow}
+use native.Mathlib.Nat.{mul-comm, suc-pred-eq-of-pos, one-le-pow}
 use lib.Pow.{pow-pos}
 use mathlib.Core.Logic.{⊎-elim}
 use Rattle.exact.specs.Formula.{Frac, _//_, _≼_, _⊹_, _·_, _↥_, Side, below, above, other, lies, at-most, at-least, Formula, _↑_, bounds, by-power, lies-power, Enclosed}
 use Rattle.exact.proofs.Fractions.{_≈_, ≼-refl, ≼-total, ≈-sym, ↥-swap, ↥-mul, ↥-mul', ↥-add, ↥-product, ↥-raise, ↥-lower, lies-refl, lies-≈, lies-trans, lies-·, lies-↥, lies-root, over-≼}
-use Rattle.exact.proofs.Wholes.{square, pow-one}
+use Rattle.exact.proofs.Wholes.{square, pow-one, pow-mul}
 use Rattle.exact.proofs.Formulas.{consistent, enclosed-power}
 use Rattle.exact.proofs.Order.{_⊑_}
 
@@ -76,6 +76,18 @@ power-half {s} {r} {u} h =
     let one : u ≈ u ↥ 1 = record { cross = rw (pow-one (u .num), pow-one (u .den)) } in
     record { whole = lies-trans (lies-≈ s two) (lies-trans h (lies-≈ s one)) }
 
+-- The cube of what lies on a side of the third of a power, and a number as the cube root of its cube.
+pub power-cubed : {s : Side} {t x : Frac} (p : ℕ) {q : ℕ} → 0 < q → lies-power s t x (p // (q * 3)) → lies-power s (t ↥ 3) x (p // q)
+power-cubed {s} {t} {x} p {q} pos h =
+    let three : 0 < q * 3 = omega arith in
+    let same : (t ↥ 3) ↥ (p // q) .den ≈ t ↥ (p // (q * 3)) .den = record { cross = rw (suc-pred-eq-of-pos pos, suc-pred-eq-of-pos three, pow-mul (t .num) 3 q, pow-mul (t .den) 3 q, mul-comm 3 q) } in
+    record { whole = lies-trans (lies-≈ s same) (h .whole) }
+
+pub power-third : (s : Side) (r : Frac) → lies-power s r (r ↥ 3) (1 // 3)
+power-third s r =
+    let same : r ↥ 3 ≈ (r ↥ 3) ↥ 1 = record { cross = rw (pow-one (r .num ^ 3), pow-one (r .den ^ 3)) } in
+    record { whole = lies-≈ s same }
+
 -- Of one formula, where it is at least 1: a larger exponent gives no less. Where it is at most 1: no more.
 module _ {a : Formula} {e e' : Frac} (h : e ≼ e') where
   raise-lower : bounds below a (1 // 1) → (t : Frac) → bounds below (a ↑ e) t → bounds below (a ↑ e') t
@@ -115,6 +127,18 @@ module _ (r n p : ℕ) {k d q : ℕ} (hk : 0 < k) (hd : 0 < d) (hq : 0 < q) wher
   power-above h =
       let c : n // d ↥ p ≼ r // k ↥ (p // q) .den = record { cross = rw (suc-pred-eq-of-pos hk, suc-pred-eq-of-pos hd, suc-pred-eq-of-pos hq) h } in
       record { whole = at-least c }
+
+  pub whole-below : lies-power below (r // k) (n // d) (p // q) → r ^ q * d ^ p ≤ n ^ p * k ^ q
+  whole-below h = go (h .whole)
+    where
+      go : lies below (r // k ↥ (p // q) .den) (n // d ↥ p) → r ^ q * d ^ p ≤ n ^ p * k ^ q
+      go (at-most c) = rw (suc-pred-eq-of-pos hk, suc-pred-eq-of-pos hd, suc-pred-eq-of-pos hq) at (c .cross)
+
+  pub whole-above : lies-power above (r // k) (n // d) (p // q) → n ^ p * k ^ q ≤ r ^ q * d ^ p
+  whole-above h = go (h .whole)
+    where
+      go : lies above (r // k ↥ (p // q) .den) (n // d ↥ p) → n ^ p * k ^ q ≤ r ^ q * d ^ p
+      go (at-least c) = rw (suc-pred-eq-of-pos hk, suc-pred-eq-of-pos hd, suc-pred-eq-of-pos hq) at (c .cross)
 
 -- A power that is a fraction has its ordinary value.
 pub exact-power : {a : Formula} {x t e : Frac} → Enclosed a x x → t ↥ e .den ≈ x ↥ e .num → Enclosed (a ↑ e) t t

@@ -139,6 +139,17 @@ module _ {n d s lo hi : ℕ} (pos : 0 < d) (root : CubeRoot n d s lo hi) where
   pub root-near : (lo ≤ hi) × (hi ≤ lo + 1)
   root-near = (ordered (root .root) (omega arith) pos, neighbours (root .root))
 
+  -- A ratio of at least an eighth has a root of at least a half, and one of at most 8 a root of at most 2.
+  pub root-least : 0 < n → d ≤ 8 * n → s ≤ hi * 2
+  root-least npos h =
+      root-le s (hi * 2) 3 (omega arith)
+      (rw (mul-pow hi 2 3) (le-of-mul-le-mul-right {k = n} (omega (arith, root .root .above, mul-le-mul-left (hi ^ 3) h)) npos))
+
+  pub root-most : n ≤ 8 * d → lo ≤ s * 2
+  root-most h =
+      root-le lo (s * 2) 3 (omega arith)
+      (rw (mul-pow s 2 3) (le-of-mul-le-mul-right {k = d} (omega (arith, root .root .below, mul-le-mul-left (s ^ 3) h)) pos))
+
   -- In the words of the index: lo / s lies below the power 1/3 of n / d, and hi / s above it.
   pub cube-below : lies-power below (lo // s) (n // d) (1 // 3)
   cube-below = power-below lo n 1 units-some pos (zero-lt-suc 2) (rw (pow-one d, pow-one n) (root .root .below))

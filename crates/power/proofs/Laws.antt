@@ -2,10 +2,10 @@
 use mathlib.Core.Path.{_≡_}
 use Prim.Native.Nat.{ℕ, _+_, _*_, _^_, _≤_, _<_}
 use native.Mathlib.Omega.{arith}
-use Rattle.exact.specs.Formula.{_//_, _≼_, Side, below, above, lies-power}
+use Rattle.exact.specs.Formula.{_//_, _≼_, Side, below, above, lies, lies-power}
 use Rattle.exact.proofs.Fractions.{≼-refl}
 use Rattle.exact.proofs.Formulas.{power-between}
-use Rattle.exact.proofs.Powers.{power-base}
+use Rattle.exact.proofs.Powers.{power-base, power-out}
 use Rattle.power.specs.declared.Pair.{Pair}
 use Rattle.power.specs.Numbers.{unit, val, Norm}
 use Rattle.power.specs.Steps.{baseOf, rootsOf}
@@ -18,6 +18,11 @@ use Rattle.power.proofs.Leading.{Based, based}
 pub in-words : {s : Side} (t u a b p q : ℕ) → BoundsPower s t u a b p q → lies-power s (t // u) (a // b) (p // q)
 unfolding BoundsPower
 in-words t u a b p q h = h
+
+-- A fraction farther out is on the same side.
+pub rescaled : (s : Side) (t u v k a b p q : ℕ) → lies s (v // k) (t // u) → BoundsPower s t u a b p q → BoundsPower s v k a b p q
+unfolding BoundsPower
+rescaled s t u v k a b p q out h = power-out out h
 
 module _ {a b p q : ℕ} (given : Raisable a b p q) where
   pub base-of : Based a b (baseOf a b)
