@@ -38,7 +38,7 @@ number-of-kind exact.combination = 6
 number-of-kind exact.vehicle = 7
 
 -- What holds of the seven numbers holds of every accepted one.
-of-seven : (P : ℕ → Type 0) → P 1 → P 2 → P 3 → P 4 → P 5 → P 6 → P 7 → (k : ℕ) → Within 1 7 k → P k
+pub of-seven : (P : ℕ → Type 0) → P 1 → P 2 → P 3 → P 4 → P 5 → P 6 → P 7 → (k : ℕ) → Within 1 7 k → P k
 of-seven P a b c d e f g zero w = absurd (omega (arith, w .least))
 of-seven P a b c d e f g (suc zero) w = a
 of-seven P a b c d e f g (suc (suc zero)) w = b

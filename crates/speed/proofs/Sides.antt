@@ -1,0 +1,51 @@
+-- From whole numbers to bounds on the formula of a speed, for either side at once. Assumes nothing.
+use mathlib.Core.Path.{_≡_, ap}
+use Prim.Native.Nat.{ℕ, _+_, _*_, _^_, _≤_, _<_}
+use native.Mathlib.Nat.{mul-pos, one-le-pow, suc-pred-eq-of-pos, zero-lt-suc}
+use native.Mathlib.Omega.{arith}
+use Rattle.exact.specs.Formula.{Frac, _//_, _≼_, _·_, _↥_, Side, below, above, other, lies, at-most, at-least, Formula, lit, _⊗_, _⊘_, _↑_, bounds, by-lit, by-product, by-quotient, by-power, lies-power}
+use Rattle.exact.proofs.Wholes.{mul-pow, pow-one, one-pow}
+use Rattle.exact.proofs.Fractions.{_≈_, lies-refl, lies-≈}
+use Rattle.exact.proofs.Formulas.{power-between}
+use Rattle.exact.proofs.Powers.{power-above, power-third, up-below}
+use Rattle.exact.proofs.Fractions.{over-≼}
+use Rattle.power.specs.declared.Bounds.{Bounds}
+use Rattle.power.specs.Numbers.{unit}
+use Rattle.power.specs.Power.{BoundsPower}
+use Rattle.power.proofs.Laws.{in-words}
+use Rattle.speed.specs.declared.Split.{Split}
+use Rattle.speed.proofs.Products.{Product}
+
+-- The end of a pair on a side.
+abbrev pub at : Side → Bounds → ℕ
+at below r = r .lo
+at above r = r .hi
+
+-- ── The cube root of a quotient ─────────────────────────────────────────────────────────────
+
+-- B times the cube root of P / X, whose root is q.
+pub shape : {s : Side} {B X : Formula} {P y x t : Frac} (q : Frac) → bounds s B y → bounds (other s) X x → 0 < x .num → lies s (q ↥ 3 · x) P → lies s t (y · q) → bounds s (B ⊗ (lit P ⊘ X) ↑ (1 // 3)) t
+shape {s} q b x pos h k = by-product b (by-power (by-quotient (by-lit (lies-refl s _)) x pos h) (power-third s q)) k
+
+-- The product's cubes, on either side: (t 1000 w)^3 d against (b 2^30)^3 n.
+abbrev pub Cubes : Side → (t w b n d : ℕ) → Type 0
+Cubes below t w b n d = (t * 1000 * w) ^ 3 * d ≤ (b * 2 ^ 30) ^ 3 * n
+Cubes above t w b n d = (b * 2 ^ 30) ^ 3 * n ≤ (t * 1000 * w) ^ 3 * d
+
+pub cubes : {p : Split} {n d : ℕ} {r : Bounds} → Product p n d r → (s : Side) → Cubes s (at s r) (at (other s) (p .over)) (at s (p .base)) n d
+cubes x below = x .below
+cubes x above = x .above
+
+-- ── A power with a cap ──────────────────────────────────────────────────────────────────────
+
+-- What is below b^(p/q), with b at most top, p/q at most 1/j and top at most m^j, is at most m.
+pub capped : (t b p q j m top : ℕ) → 1 ≤ b → b ≤ top → 0 < q → 0 < j → p * j ≤ q → top ≤ m ^ j → BoundsPower below t unit b 1 p q → t ≤ unit * m
+capped t b p q j m top from to qpos jpos small big h =
+    let less : p // q ≼ 1 // j = over-≼ p 1 qpos jpos (omega arith) in
+    let one : 1 // 1 ≼ b // 1 = omega arith in
+    let up : b // 1 ≼ top // 1 = omega arith in
+    let c : t // unit ≼ m // 1 = power-between (up-below less one (in-words t unit b 1 p q h)) (power-above m top 1 (zero-lt-suc 0) (zero-lt-suc 0) jpos (cap jpos)) up in
+    omega (arith, c .cross)
+  where
+    cap : 0 < j → top ^ 1 * 1 ^ j ≤ m ^ j * 1 ^ 1
+    cap pos = rw (pow-one top, one-pow j) (omega arith)

@@ -1,0 +1,165 @@
+// The reference speed by each of the four methods, in millionths of a knot, from below and from above.
+use power::Bounds;
+use ship::Deadweight;
+use ship::Particulars;
+use ship::Trial;
+ghost use mathlib.Core.Path.{_≡_};
+ghost use Prim.Native.Nat.{_+_, _*_, _/_, _^_, _≤_, _<_};
+ghost use Rattle.exact.specs.Index.{k, sized};
+ghost use Rattle.number.specs.Division.{ceilOf};
+ghost use Rattle.number.specs.Ratio.{Moderate};
+ghost use Rattle.ship.specs.Accepted.{Within, Near, hundredths};
+ghost use Rattle.ship.specs.Figures.{kind-of, deadweight-of};
+ghost use Rattle.speed.specs.Speeds.{Parted, RowOf, speedFrom, averageOf, lessMarginOf, statisticalOf};
+
+// A row of method 4's table.
+pub struct Row {
+    pub a: u64,
+    pub c: u64,
+    pub d: u64,
+    pub f: u64,
+}
+
+// A speed in 10^-9 knot, and what it is still to be divided by, in 2^-30.
+pub struct Split {
+    pub base: Bounds,
+    pub over: Bounds,
+}
+
+// x * 2^30 / (w * m), rounded down: by w to 62 bits, then by m, which is one rounding.
+fn quotient_down(x: u64, w: u64, m: u64) -> u64
+    requires { ⌜ (2 ^ 30 ≤ w) × (w ≤ 2 ^ 51) × (x < 2 ^ 62) × (0 < m) ⌝ }
+    ensures { λ r. ⌜ r ≡ x * 2 ^ 30 / (w * m) ⌝ }
+{
+    let q = number::division::floor_scaled(x, w, 1024, 3);
+    q / m
+}
+
+// x * 2^30 / (w * m), rounded up.
+fn quotient_up(x: u64, w: u64, m: u64) -> u64
+    requires { ⌜ (2 ^ 30 ≤ w) × (w ≤ 2 ^ 51) × (x < 2 ^ 62) × (0 < m) × (m ≤ 2 ^ 40) ⌝ }
+    ensures { λ r. ⌜ r ≡ ceilOf (x * 2 ^ 30) (w * m) ⌝ }
+{
+    let q = number::division::ceil_scaled(x, w, 1024, 3);
+    (q + (m - 1)) / m
+}
+
+// The shape that methods 2 to 4 share: base / over times the cube root of n / d.
+fn speed_from(s: Split, n: u64, d: u64) -> Bounds
+    requires { ⌜ Parted s × Moderate n d ⌝ }
+    ensures { λ r. ⌜ r ≡ speedFrom s n d ⌝ }
+{
+    let r = number::ratio::cube_root(n, d);
+    let m = r.scale * 1000;
+    let base = s.base;
+    let over = s.over;
+    let lo = quotient_down(base.lo * r.low, over.hi, m);
+    let hi = quotient_up(base.hi * r.high, over.lo, m);
+    Bounds { lo, hi }
+}
+
+fn row_of(kind: u64) -> Row
+    requires { ⌜ Within 1 7 kind ⌝ }
+    ensures { λ r. ⌜ RowOf (kind-of kind) r ⌝ }
+{
+    match kind {
+        1 => Row {
+            a: 106585,
+            c: 2706,
+            d: 237510,
+            f: 54087,
+        },
+        2 => Row {
+            a: 74462,
+            c: 7604,
+            d: 214704,
+            f: 59522,
+        },
+        3 => Row {
+            a: 81358,
+            c: 5383,
+            d: 228415,
+            f: 55826,
+        },
+        4 => Row {
+            a: 32395,
+            c: 18294,
+            d: 5042,
+            f: 103046,
+        },
+        5 => Row {
+            a: 10600,
+            c: 31518,
+            d: 272,
+            f: 138634,
+        },
+        6 => Row {
+            a: 81391,
+            c: 5378,
+            d: 228536,
+            f: 55820,
+        },
+        _ => Row {
+            a: 166773,
+            c: 1802,
+            d: 2627693,
+            f: 39973,
+        },
+    }
+}
+
+// The deadweight, for a container ship no more than `most`.
+fn size(kind: u64, deadweight: Deadweight, most: u64) -> u64
+    requires { ⌜ Within 1 7 kind ⌝ }
+    ensures { λ r. ⌜ r ≡ sized most (kind-of kind) (deadweight-of deadweight) ⌝ }
+{
+    let t = deadweight.tonnes;
+    if kind == 4 {
+        if t <= most { t } else { most }
+    } else {
+        t
+    }
+}
+
+// V_avg in 10^-9 knot.
+fn average(kind: u64, deadweight: Deadweight) -> Bounds
+    requires { ⌜ Within 1 7 kind × Within 100 600000 (deadweight .tonnes) ⌝ }
+    ensures { λ r. ⌜ r ≡ averageOf (kind-of kind) (deadweight-of deadweight) ⌝ }
+{
+    let row = row_of(kind);
+    let b = size(kind, deadweight, 80000);
+    let x = power::power(b, 1, row.c, 100000);
+    let t = row.a * 3125;
+    Bounds {
+        lo: t * x.lo / 33554432,
+        hi: t * x.hi / 33554432 + 1,
+    }
+}
+
+// The larger of 0.95 v and v - 1 knot, in 10^-9 knot.
+fn less_margin(v: u64) -> u64
+    requires { ⌜ (1000000000 ≤ v) × (v ≤ 2 ^ 37) ⌝ }
+    ensures { λ r. ⌜ r ≡ lessMarginOf v ⌝ }
+{
+    if v <= 20000000000 {
+        v * 95 / 100
+    } else {
+        v - 1000000000
+    }
+}
+
+// Method 4; the power is the sum of P_ME in 1/100 kW.
+fn statistical(kind: u64, deadweight: Deadweight, power: u64) -> Bounds
+    requires { ⌜ Within 1 7 kind × Within 100 600000 (deadweight .tonnes) × Within 7500 36000000 power ⌝ }
+    ensures { λ r. ⌜ r ≡ statisticalOf (kind-of kind) (deadweight-of deadweight) power ⌝ }
+{
+    let row = row_of(kind);
+    let v = average(kind, deadweight);
+    let base = Bounds {
+        lo: less_margin(v.lo),
+        hi: less_margin(v.hi) + 1,
+    };
+    let e = size(kind, deadweight, 95000);
+    let over = power::power(e, 1, row.f, 300000);
+    speed_from(Split { base, over }, power * 400, 3 * row.d)
+}
