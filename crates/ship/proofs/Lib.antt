@@ -1,0 +1,6 @@
+pub mod Tests
+pub mod Sums
+pub mod Order
+pub mod Right
+pub mod Figured
+pub mod Typed

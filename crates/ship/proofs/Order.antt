@@ -1,0 +1,118 @@
+-- The first of a list of tests that holds.
+-- Assumes nothing.
+use Prim.Native.Nat.{ℕ, zero, suc}
+use mathlib.Core.Path.{_≡_, refl, sym, ap, _∙_}
+use mathlib.Core.Bool.{Bool, true, false, _&&_}
+use mathlib.Core.List.{List, [], _∷_, _++_}
+use native.Mathlib.Omega.{arith}
+use borrow.Author.Tests.{ltb-true, eqb-true, ne-eqb}
+use lib.ListN.{getD, take, drop}
+use lib.Dec.{eqb, ltb}
+use Rattle.exact.specs.Index.{if}
+use Rattle.ship.specs.Refusals.{number-of, first-of, or-else}
+use Rattle.ship.specs.declared.Refusal.{Refusal}
+use Rattle.ship.specs.declared.Refusal.the-variants.{None, Length, Check, Layout, ImoNumber, ShipType, Deadweight, GrossTonnage, CargoVolume, Engines, Consumption, AuxiliaryPower, IceClass, Speed, Ranges, Trial, Unused, NoBlock}
+
+-- Only none has the number 0.
+pub none : (r : Refusal) → number-of r ≡ 0 → r ≡ None
+none None h = refl
+none Length h = absurd (omega arith)
+none Check h = absurd (omega arith)
+none Layout h = absurd (omega arith)
+none ImoNumber h = absurd (omega arith)
+none ShipType h = absurd (omega arith)
+none Deadweight h = absurd (omega arith)
+none GrossTonnage h = absurd (omega arith)
+none CargoVolume h = absurd (omega arith)
+none Engines h = absurd (omega arith)
+none Consumption h = absurd (omega arith)
+none AuxiliaryPower h = absurd (omega arith)
+none IceClass h = absurd (omega arith)
+none Speed h = absurd (omega arith)
+none Ranges h = absurd (omega arith)
+none Trial h = absurd (omega arith)
+none Unused h = absurd (omega arith)
+none NoBlock h = absurd (omega arith)
+
+-- No test has none for its refusal.
+abbrev pub Numbered : List (Bool × Refusal) → Bool
+Numbered [] = true
+Numbered (t ∷ ts) = ltb 0 (number-of (t .1)) && Numbered ts
+
+pub both : (s t : Bool) → s && t ≡ true → (s ≡ true) × (t ≡ true)
+both true t e = (refl, e)
+both false t e = absurd (let z : _≡_ {A = ℕ} 0 1 = cc in omega arith)
+
+-- ── Given exactly when ──────────────────────────────────────────────────────────────────────
+
+-- `First ts rest r`: r is the refusal of the first test that holds, or rest where none does.
+pub data First : List (Bool × Refusal) → Refusal → Refusal → Type 0 where
+  no-test : {rest : Refusal} → First [] rest rest
+  given : {r rest : Refusal} {ts : List (Bool × Refusal)} → First ((true, r) ∷ ts) rest r
+  passed-by : {n r rest : Refusal} {ts : List (Bool × Refusal)} → First ts rest r → First ((false, n) ∷ ts) rest r
+
+pub first-is : (ts : List (Bool × Refusal)) (rest : Refusal) → First ts rest (first-of ts rest)
+unfolding first-of
+first-is [] rest = no-test
+first-is ((true, n) ∷ ts) rest = given
+first-is ((false, n) ∷ ts) rest = passed-by (first-is ts rest)
+
+-- Every list of tests has one answer.
+pub first-one : {ts : List (Bool × Refusal)} {rest r q : Refusal} → First ts rest r → First ts rest q → r ≡ q
+first-one no-test no-test = refl
+first-one given given = refl
+first-one (passed-by f) (passed-by g) = first-one f g
+
+-- ── Where none is given ─────────────────────────────────────────────────────────────────────
+
+head : (p : Bool) (n r : Refusal) → ltb 0 (number-of n) ≡ true → if p n r ≡ None → (p ≡ false) × (r ≡ None)
+head true n r h e =
+    let z : number-of n ≡ 0 = ap number-of e in
+    absurd (omega (arith, ltb-true 0 (number-of n) h))
+head false n r h e = (refl, e)
+
+-- Each test fails.
+pub passed : (ts : List (Bool × Refusal)) (rest : Refusal) → Numbered ts ≡ true → first-of ts rest ≡ None → (i : ℕ) → getD ts i (false, None) .0 ≡ false
+unfolding first-of
+passed [] rest n e i = refl
+passed (t ∷ ts) rest n e zero = head (t .0) (t .1) (first-of ts rest) (both _ _ n .0) e .0
+passed (t ∷ ts) rest n e (suc i) = passed ts rest (both (ltb 0 (number-of (t .1))) (Numbered ts) n .1) (head (t .0) (t .1) (first-of ts rest) (both _ _ n .0) e .1) i
+
+-- ── One list after another ──────────────────────────────────────────────────────────────────
+
+pub first-append : (ts us : List (Bool × Refusal)) (rest : Refusal) → first-of (ts ++ us) rest ≡ first-of ts (first-of us rest)
+unfolding first-of
+first-append [] us rest = refl
+first-append (t ∷ ts) us rest = ap (if (t .0) (t .1)) (first-append ts us rest)
+
+pub first-split : (n : ℕ) (ts : List (Bool × Refusal)) (rest : Refusal) → first-of ts rest ≡ first-of (take n ts) (first-of (drop n ts) rest)
+unfolding first-of
+first-split zero ts rest = refl
+first-split (suc n) [] rest = refl
+first-split (suc n) (t ∷ ts) rest = ap (if (t .0) (t .1)) (first-split n ts rest)
+
+onward-head : (p : Bool) (n r rest : Refusal) → ltb 0 (number-of n) ≡ true → if p n (or-else r rest) ≡ or-else (if p n r) rest
+unfolding or-else
+onward-head true n r rest h = rw (ne-eqb (number-of n) 0 (λ e. omega (arith, ltb-true 0 (number-of n) h)))
+onward-head false n r rest h = refl
+
+-- What comes after a list of tests counts only where the list gives none.
+pub onward : (ts : List (Bool × Refusal)) (rest : Refusal) → Numbered ts ≡ true → first-of ts rest ≡ or-else (first-of ts None) rest
+unfolding first-of or-else
+onward [] rest n = refl
+onward (t ∷ ts) rest n =
+    ap (if (t .0) (t .1)) (onward ts rest (both (ltb 0 (number-of (t .1))) (Numbered ts) n .1))
+    ∙ onward-head (t .0) (t .1) (first-of ts None) rest (both _ _ n .0)
+
+-- The first n tests give a refusal, which is then the list's; or none, and the others are the list's.
+module _ (n : ℕ) (ts : List (Bool × Refusal)) (numbered : Numbered (take n ts) ≡ true) where
+  two-stages : first-of ts None ≡ or-else (first-of (take n ts) None) (first-of (drop n ts) None)
+  two-stages = first-split n ts None ∙ onward (take n ts) (first-of (drop n ts) None) numbered
+
+  pub stopped : (r : Refusal) → r ≡ first-of (take n ts) None → (number-of r ≡ 0 → ⊥) → r ≡ first-of ts None
+  unfolding or-else
+  stopped r e h = sym (two-stages ∙ rw (← e, ne-eqb (number-of r) 0 h))
+
+  pub went-on : first-of (take n ts) None ≡ None → first-of (drop n ts) None ≡ first-of ts None
+  unfolding or-else
+  went-on e = sym (two-stages ∙ rw e)

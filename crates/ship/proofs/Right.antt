@@ -1,0 +1,285 @@
+-- What the numbers of a record with no refusal are.
+-- Assumes nothing.
+use Prim.Native.Nat.{ℕ, zero, suc, _+_, _*_, _≤_, _<_}
+use mathlib.Core.Path.{_≡_, refl, sym, ap, _∙_}
+use mathlib.Core.Bool.{Bool, true, false, _&&_, _||_, not}
+use mathlib.Core.List.{List}
+use native.Mathlib.Omega.{arith}
+use borrow.Author.Tests.{ltb-false, eq-eqb, ne-eqb, eqb-true, eqb-false, le-leb, not-false}
+use lib.Dec.{eqb, ltb, leb}
+use lib.ListN.{getD}
+use Rattle.exact.specs.Index.{if, sum-P-ME}
+use Rattle.exact.specs.Ranges.{engines-at, low}
+use Rattle.ship.specs.Record.{no-engine}
+use Rattle.ship.specs.Refusals.{first-of}
+use Rattle.ship.specs.Figures.{mains}
+use Rattle.ship.specs.Rules.{outside, between, nonzero, gross-refused, volume-refused, any-used, any-unused, engine-refused, engines-refused, uses-refused, consumption-refused, auxiliary-refused, speed-refused, crossed, range-refused, engine-crossed, ranges-refused, capacity, apart, trial-refused, occupied, tests, refusal-of}
+use Rattle.ship.specs.Accepted.{Within, Near}
+use Rattle.ship.specs.declared.Range.{Range}
+use Rattle.ship.specs.declared.Consumption.{Consumption}
+use Rattle.ship.specs.declared.Engine.{Engine}
+use Rattle.ship.specs.declared.Trial.{Trial}
+use Rattle.ship.specs.declared.Particulars.{Particulars}
+use Rattle.ship.specs.declared.Ship.{Ship}
+use Rattle.ship.specs.declared.Refusal.the-variants as refusal
+use Rattle.ship.proofs.Order.{passed}
+use Rattle.ship.proofs.Tests.{neither, not-with, inside, is-zero, each-used, each-unused, engines-inside, Sized, engine-inside, limit-most}
+
+-- No refusal, so no test holds.
+pub holds : (s : Ship) → refusal-of s ≡ refusal.None → (i : ℕ) → getD (tests s) i (false, refusal.None) .0 ≡ false
+unfolding refusal-of tests
+holds s e = passed (tests s) refusal.None refl e
+
+-- ── Guards that are met ─────────────────────────────────────────────────────────────────────
+
+-- By cases on whether n is k.
+cases : {P : Type 0} (n k : ℕ) → (n ≡ k → P) → ((n ≡ k → ⊥) → P) → P
+cases {P} n k f g = go (eqb n k) refl
+  where
+    go : (t : Bool) → eqb n k ≡ t → P
+    go true e = f (eqb-true n k e)
+    go false e = g (eqb-false n k e)
+
+first-of-two : (n a b : ℕ) → n ≡ a → eqb n a || eqb n b ≡ true
+first-of-two n a b h = rw (eq-eqb n a h)
+
+pub either-of : (n a : ℕ) → a ≤ n → n ≤ a + 1 → eqb n a || eqb n (a + 1) ≡ true
+either-of n a h k = cases n a (first-of-two n a (a + 1)) (λ d. rw (ne-eqb n a d, eq-eqb n (a + 1) (omega arith)))
+
+met : (lo hi n : ℕ) → lo ≤ n → n ≤ hi → between lo hi n ≡ true
+met lo hi n h k = rw (le-leb lo n h, le-leb n hi k)
+
+-- ── Rules 7, 8: a figure of one type only ───────────────────────────────────────────────────
+
+pub record Of-type (k lo hi kind n : ℕ) : Type 0 where
+  pub least : kind ≡ k → lo ≤ n
+  pub most : n ≤ hi
+
+of-type : (k lo hi kind n : ℕ) → eqb kind k && outside lo hi n || not (eqb kind k) && nonzero n ≡ false → Of-type k lo hi kind n
+of-type k lo hi kind n e =
+    let j = neither (eqb kind k && outside lo hi n) (not (eqb kind k) && nonzero n) e in
+    let of : kind ≡ k → Within lo hi n = λ h. inside lo hi n (not-with (eqb kind k) _ (j .0) (eq-eqb kind k h)) in
+    let other : (kind ≡ k → ⊥) → n ≡ 0 = λ h. is-zero n (not-with (not (eqb kind k)) _ (j .1) (ap not (ne-eqb kind k h))) in
+    record { least = λ h. of h .least; most = cases kind k (λ h. of h .most) (λ h. omega (arith, other h)) }
+
+-- ── Rules 10 and 14: a consumption ──────────────────────────────────────────────────────────
+
+pub record Metered (c : Consumption) : Type 0 where
+  pub source : Within 1 3 (c .source)
+  pub fuel : c .fuel ≤ 8
+  pub most : (c .sfc .low ≤ 4000) × (c .sfc .high ≤ 4000)
+  pub least : (c .source ≡ 3 → ⊥) → 500 ≤ c .sfc .low
+  pub rising : c .sfc .low ≤ c .sfc .high
+
+metered : (c : Consumption) → uses-refused c ≡ false → crossed (c .sfc) ≡ false → Metered c
+metered c e r =
+    let n = c .source in
+    let bad = outside 500 4000 (c .sfc .low) || outside 500 4000 (c .sfc .high) || outside 1 8 (c .fuel) in
+    let some = nonzero (c .sfc .low) || nonzero (c .sfc .high) || nonzero (c .fuel) in
+    let k = neither (outside 1 3 n || (eqb n 1 || eqb n 2) && bad) (eqb n 3 && some) e in
+    let j = neither (outside 1 3 n) ((eqb n 1 || eqb n 2) && bad) (k .0) in
+    let w = inside 1 3 n (j .0) in
+    let given : (n ≡ 3 → ⊥) → bad ≡ false = λ h. not-with (eqb n 1 || eqb n 2) bad (j .1) (either-of n 1 (w .least) (omega arith)) in
+    let ends : (n ≡ 3 → ⊥) → Within 500 4000 (c .sfc .low) × Within 500 4000 (c .sfc .high) × Within 1 8 (c .fuel) = λ h.
+    let b = neither (outside 500 4000 (c .sfc .low) || outside 500 4000 (c .sfc .high)) (outside 1 8 (c .fuel)) (given h) in
+    let a = neither (outside 500 4000 (c .sfc .low)) (outside 500 4000 (c .sfc .high)) (b .0) in
+    (inside 500 4000 (c .sfc .low) (a .0), inside 500 4000 (c .sfc .high) (a .1), inside 1 8 (c .fuel) (b .1)) in
+    let none : n ≡ 3 → (c .sfc .low ≡ 0) × (c .sfc .high ≡ 0) × (c .fuel ≡ 0) = λ h.
+    let b = neither (nonzero (c .sfc .low) || nonzero (c .sfc .high)) (nonzero (c .fuel)) (not-with (eqb n 3) some (k .1) (eq-eqb n 3 h)) in
+    let a = neither (nonzero (c .sfc .low)) (nonzero (c .sfc .high)) (b .0) in
+    (is-zero (c .sfc .low) (a .0), is-zero (c .sfc .high) (a .1), is-zero (c .fuel) (b .1)) in
+    record {
+      source = w;
+      fuel = cases n 3 (λ h. omega (arith, none h .2)) (λ h. ends h .2 .most);
+      most = cases n 3 (λ h. (omega (arith, none h .0), omega (arith, none h .1))) (λ h. (ends h .0 .most, ends h .1 .most));
+      least = λ h. ends h .0 .least;
+      rising = ltb-false (c .sfc .high) (c .sfc .low) r;
+    }
+
+-- ── Rule 14: a range, and an engine entry that is used ──────────────────────────────────────
+
+pub record Settles (method : ℕ) (r : Range) : Type 0 where
+  pub rising : r .low ≤ r .high
+  pub single : 2 ≤ method → r .low ≡ r .high
+
+settles : (method : ℕ) (r : Range) → method ≤ 4 → range-refused method r ≡ false → Settles method r
+settles method r m e =
+    let k = neither (crossed r) (between 2 4 method && not (eqb (r .low) (r .high))) e in
+    record {
+      rising = ltb-false (r .high) (r .low) (k .0);
+      single = λ h. eqb-true (r .low) (r .high) (not-false _ (not-with (between 2 4 method) _ (k .1) (met 2 4 method h m)));
+    }
+
+pub record Entry (method : ℕ) (e : Engine) : Type 0 where
+  pub sized : Sized e
+  pub mcr : Settles method (e .mcr)
+  pub uses : Metered (e .uses)
+
+-- ── Rule 13: the speed ──────────────────────────────────────────────────────────────────────
+
+pub record Speeded (m kind : ℕ) (v : Range) : Type 0 where
+  pub method : Within 1 4 m
+  pub most : (v .low ≤ 6000) × (v .high ≤ 6000)
+  pub least : m ≤ 3 → 500 ≤ v .low
+  pub draught : m ≡ 3 → not (eqb kind 1) && not (eqb kind 3) && not (eqb kind 4) ≡ false
+
+speeded : (method kind : ℕ) (v : Range) → speed-refused method kind v ≡ false → Speeded method kind v
+speeded method kind v e =
+    let another = not (eqb kind 1) && not (eqb kind 3) && not (eqb kind 4) in
+    let bad = outside 500 6000 (v .low) || outside 500 6000 (v .high) in
+    let some = nonzero (v .low) || nonzero (v .high) in
+    let l = neither (outside 1 4 method || eqb method 3 && another || between 1 3 method && bad) (eqb method 4 && some) e in
+    let k = neither (outside 1 4 method || eqb method 3 && another) (between 1 3 method && bad) (l .0) in
+    let j = neither (outside 1 4 method) (eqb method 3 && another) (k .0) in
+    let w = inside 1 4 method (j .0) in
+    let ends : method ≤ 3 → Within 500 6000 (v .low) × Within 500 6000 (v .high) = λ h.
+    let a = neither (outside 500 6000 (v .low)) (outside 500 6000 (v .high)) (not-with (between 1 3 method) bad (k .1) (met 1 3 method (w .least) h)) in
+    (inside 500 6000 (v .low) (a .0), inside 500 6000 (v .high) (a .1)) in
+    let none : method ≡ 4 → (v .low ≡ 0) × (v .high ≡ 0) = λ h.
+    let a = neither (nonzero (v .low)) (nonzero (v .high)) (not-with (eqb method 4) some (l .1) (eq-eqb method 4 h)) in
+    (is-zero (v .low) (a .0), is-zero (v .high) (a .1)) in
+    record {
+      method = w;
+      most = cases method 4 (λ h. (omega (arith, none h .0), omega (arith, none h .1))) (λ h.
+          let m : method ≤ 3 = omega arith in
+          (ends m .0 .most, ends m .1 .most));
+      least = λ h. ends h .0 .least;
+      draught = λ h. not-with (eqb method 3) another (j .1) (eq-eqb method 3 h);
+    }
+
+-- ── Rule 15: the trial ──────────────────────────────────────────────────────────────────────
+
+near : (w h : ℕ) → apart w h ≡ false → Near (100 * w) h
+near w h e =
+    let k = neither (ltb (5 * h) (100 * w)) (ltb (5 * (100 * w)) h) e in
+    record { first = ltb-false (5 * h) (100 * w) (k .0); second = ltb-false (5 * (100 * w)) h (k .1) }
+
+-- With P the sum of P_ME and C the Capacity, both in hundredths.
+pub record Trialled (m kW tonnes P C : ℕ) : Type 0 where
+  pub power : kW ≤ 600000
+  pub load : tonnes ≤ C
+  pub tried : 2 ≤ m → m ≤ 3 → Within 1 600000 kW × Near (100 * kW) P
+  pub loaded : m ≡ 3 → Near (100 * tonnes) C
+
+trialled : (p : Particulars) (es : List Engine) → Within 1 4 (p .method) → trial-refused p es ≡ false
+    → Trialled (p .method) (p .trial .power) (p .trial .deadweight .tonnes) (sum-P-ME (engines-at low (mains (p .used) es))) (capacity (p .kind) (p .deadweight))
+unfolding trial-refused
+trialled p es w e =
+    let m = p .method in
+    let kW = p .trial .power in
+    let t = p .trial .deadweight .tonnes in
+    let P = sum-P-ME (engines-at low (mains (p .used) es)) in
+    let C = capacity (p .kind) (p .deadweight) in
+    let some = nonzero kW || nonzero t in
+    let bad = outside 1 600000 kW || apart kW P in
+    let off = eqb t 0 || apart t C in
+    let l = neither ((eqb m 1 || eqb m 4) && some || (eqb m 2 || eqb m 3) && bad || eqb m 2 && nonzero t) (eqb m 3 && off) e in
+    let k = neither ((eqb m 1 || eqb m 4) && some || (eqb m 2 || eqb m 3) && bad) (eqb m 2 && nonzero t) (l .0) in
+    let j = neither ((eqb m 1 || eqb m 4) && some) ((eqb m 2 || eqb m 3) && bad) (k .0) in
+    let none : eqb m 1 || eqb m 4 ≡ true → (kW ≡ 0) × (t ≡ 0) = λ h.
+    let a = neither (nonzero kW) (nonzero t) (not-with (eqb m 1 || eqb m 4) some (j .0) h) in
+    (is-zero kW (a .0), is-zero t (a .1)) in
+    let tried : 2 ≤ m → m ≤ 3 → Within 1 600000 kW × Near (100 * kW) P = λ g h.
+    let a = neither (outside 1 600000 kW) (apart kW P) (not-with (eqb m 2 || eqb m 3) bad (j .1) (either-of m 2 g h)) in
+    (inside 1 600000 kW (a .0), near kW P (a .1)) in
+    let loaded : m ≡ 3 → Near (100 * t) C = λ h. near t C (neither (eqb t 0) (apart t C) (not-with (eqb m 3) off (l .1) (eq-eqb m 3 h)) .1) in
+    let last : eqb m 4 ≡ true → eqb m 1 || eqb m 4 ≡ true = λ h. rw h (or-true (eqb m 1)) in
+    record {
+      power = cases m 1 (λ h. omega (arith, none (first-of-two m 1 4 h) .0)) (λ a.
+          cases m 4 (λ h. omega (arith, none (last (eq-eqb m 4 h)) .0)) (λ b. tried (omega arith) (omega arith) .0 .most));
+      load = cases m 3 (λ h. omega (arith, loaded h .first)) (λ a.
+          cases m 2 (λ h. omega (arith, is-zero t (not-with (eqb m 2) (nonzero t) (k .1) (eq-eqb m 2 h)))) (λ b.
+          cases m 1 (λ h. omega (arith, none (first-of-two m 1 4 h) .1)) (λ c. omega (arith, none (last (eq-eqb m 4 (omega arith))) .1))));
+      tried = tried;
+      loaded = loaded;
+    }
+  where
+    or-true : (b : Bool) → b || true ≡ true
+    or-true true = refl
+    or-true false = refl
+
+-- ── Rule 16: an entry that is not used ──────────────────────────────────────────────────────
+
+idle : (e : Engine) → occupied e ≡ false → e ≡ no-engine
+idle e h =
+    let k6 = neither _ (nonzero (e .uses .source)) h in
+    let k5 = neither _ (nonzero (e .uses .fuel)) (k6 .0) in
+    let k4 = neither _ (nonzero (e .uses .sfc .high)) (k5 .0) in
+    let k3 = neither _ (nonzero (e .uses .sfc .low)) (k4 .0) in
+    let k2 = neither _ (nonzero (e .limit)) (k3 .0) in
+    let k1 = neither (nonzero (e .mcr .low)) (nonzero (e .mcr .high)) (k2 .0) in
+    λ i. record {
+      mcr = record { low = is-zero (e .mcr .low) (k1 .0) i; high = is-zero (e .mcr .high) (k1 .1) i };
+      limit = is-zero (e .limit) (k2 .1) i;
+      uses = record {
+        sfc = record { low = is-zero (e .uses .sfc .low) (k3 .1) i; high = is-zero (e .uses .sfc .high) (k4 .1) i };
+        fuel = is-zero (e .uses .fuel) (k5 .1) i;
+        source = is-zero (e .uses .source) (k6 .1) i;
+      };
+    }
+
+-- ── All of them ─────────────────────────────────────────────────────────────────────────────
+
+pub record Right (s : Ship) : Type 0 where
+  pub imo : Within 1000000 9999999 (s .particulars .imo)
+  pub kind : Within 1 7 (s .particulars .kind)
+  pub deadweight : Within 100 600000 (s .particulars .deadweight .tonnes)
+  pub gross : Of-type 7 100 400000 (s .particulars .kind) (s .particulars .gross .gt)
+  pub volume : Of-type 1 100 1000000 (s .particulars .kind) (s .particulars .volume)
+  pub used : Within 1 4 (s .particulars .used)
+  pub entries : (i : ℕ) → i < s .particulars .used → Entry (s .particulars .method) (getD (s .engines) i no-engine)
+  pub auxiliary-uses : Metered (s .auxiliary)
+  pub auxiliary : Within 1 2 (s .particulars .auxiliary)
+  pub table : Of-type 2 1 50000 (s .particulars .auxiliary) (s .particulars .table)
+  pub ice : s .particulars .ice ≤ 1
+  pub speed : Speeded (s .particulars .method) (s .particulars .kind) (s .speed)
+  pub ends : Settles (s .particulars .method) (s .speed)
+  pub trial : Trialled (s .particulars .method) (s .particulars .trial .power) (s .particulars .trial .deadweight .tonnes) (sum-P-ME (engines-at low (mains (s .particulars .used) (s .engines)))) (capacity (s .particulars .kind) (s .particulars .deadweight))
+  pub others : (i : ℕ) → i < 4 → s .particulars .used ≤ i → getD (s .engines) i no-engine ≡ no-engine
+
+-- Rule 11 in the shape of rules 7 and 8.
+supplied : (method power : ℕ) → auxiliary-refused method power ≡ false → Within 1 2 method × Of-type 2 1 50000 method power
+supplied method power e =
+    let k = neither (outside 1 2 method || eqb method 1 && nonzero power) (eqb method 2 && outside 1 50000 power) e in
+    let j = neither (outside 1 2 method) (eqb method 1 && nonzero power) (k .0) in
+    let w = inside 1 2 method (j .0) in
+    let of : method ≡ 2 → Within 1 50000 power = λ h. inside 1 50000 power (not-with (eqb method 2) _ (k .1) (eq-eqb method 2 h)) in
+    let other : method ≡ 1 → power ≡ 0 = λ h. is-zero power (not-with (eqb method 1) _ (j .1) (eq-eqb method 1 h)) in
+    (w, record { least = λ h. of h .least; most = cases method 2 (λ h. of h .most) (λ h. omega (arith, other (omega arith))) })
+
+pub right : (s : Ship) → refusal-of s ≡ refusal.None → Right s
+unfolding tests
+right s e =
+    let p = s .particulars in
+    let es = s .engines in
+    let h = holds s e in
+    let k = engines-inside (p .used) es (h 5) in
+    let u = neither (uses-refused (s .auxiliary)) (any-used (λ e. uses-refused (e .uses)) (p .used) es) (h 6) in
+    let r = neither (range-refused (p .method) (s .speed) || crossed (s .auxiliary .sfc)) (any-used (engine-crossed (p .method)) (p .used) es) (h 10) in
+    let q = neither (range-refused (p .method) (s .speed)) (crossed (s .auxiliary .sfc)) (r .0) in
+    let v = speeded (p .method) (p .kind) (s .speed) (h 9) in
+    let a = supplied (p .auxiliary) (p .table) (h 7) in
+    record {
+      imo = inside 1000000 9999999 (p .imo) (neither (outside 1000000 9999999 (p .imo)) _ (h 0) .0);
+      kind = inside 1 7 (p .kind) (h 1);
+      deadweight = inside 100 600000 (p .deadweight .tonnes) (h 2);
+      gross = of-type 7 100 400000 (p .kind) (p .gross .gt) (h 3);
+      volume = of-type 1 100 1000000 (p .kind) (p .volume) (h 4);
+      used = k .0;
+      entries = λ i g.
+          let four : i < 4 = omega (arith, k .0) in
+          let c = neither (range-refused (p .method) (getD es i no-engine .mcr)) (crossed (getD es i no-engine .uses .sfc)) (each-used (engine-crossed (p .method)) (p .used) es (r .1) i four g) in
+          record {
+            sized = engine-inside (getD es i no-engine) (k .1 i g);
+            mcr = settles (p .method) (getD es i no-engine .mcr) (v .method .most) (c .0);
+            uses = metered (getD es i no-engine .uses) (each-used (λ e. uses-refused (e .uses)) (p .used) es (u .1) i four g) (c .1);
+          };
+      auxiliary-uses = metered (s .auxiliary) (u .0) (q .1);
+      auxiliary = a .0;
+      table = a .1;
+      ice = ltb-false 1 (p .ice) (h 8);
+      speed = v;
+      ends = settles (p .method) (s .speed) (v .method .most) (q .0);
+      trial = trialled p es (v .method) (h 11);
+      others = λ i f g. idle (getD es i no-engine) (each-unused occupied (p .used) es (h 12) i f g);
+    }

@@ -1,0 +1,82 @@
+-- `ship::power::power_sum` meets its contract.
+-- Assumes nothing.
+use Prim.Native.Nat.{ℕ, _*_, _-_, _≤_, _<_}
+use mathlib.Core.Path.{_≡_, sym, ap, _∙_}
+use mathlib.Core.Bool.{false}
+use mathlib.Core.List.{List}
+use native.Mathlib.Omega.{arith}
+use borrow.Author.Needs.{needs}
+use lib.ListN.{length, getD}
+use Rattle.exact.specs.Index.{sum-P-ME}
+use Rattle.exact.specs.Ranges.{engines-at, low}
+use Rattle.ship.specs.Record.{no-engine}
+use Rattle.ship.specs.Figures.{mains}
+use Rattle.ship.proofs.Sums.{sum-none, sum-step}
+use Rattle.ship.proofs.Tests.{engine-inside, limit-most}
+use Rattle.ship.proofs.power.power_sum.Statement.{statement}
+use Rattle.ship.proofs.power.power_sum.Tie as tie
+
+abbrev Inv-loop : tie.InvT-loop
+Inv-loop used engines n sum₀ i₀ sum i = (i ≤ used) × (used ≤ 4) × (sum ≤ i * 9000000) × (sum ≡ sum-P-ME (engines-at low (mains i engines)))
+
+abbrev μ-loop : tie.MeasureT-loop
+μ-loop used engines n sum₀ i₀ sum i = used - i
+
+loop-holds : tie.Need-loop-holds Inv-loop μ-loop
+loop-holds c = (omega arith, omega arith, omega arith, sym (sum-none (c .args .t1)))
+
+mul-e : tie.Need-mul-e Inv-loop μ-loop
+mul-e c = search needs
+
+array-copy-out-e : tie.Need-array-copy-out-e Inv-loop μ-loop
+array-copy-out-e c = search needs
+
+power-requires : tie.Need-power-requires Inv-loop μ-loop
+power-requires c κs =
+    let start = c .before .before .before in
+    let i = c .before .before .loop .i in
+    let e = getD (start .args .t1) i no-engine in
+    let z = engine-inside e (start .pre .1 i (omega arith)) in
+    (z .low .most, omega (arith, limit-most e z))
+
+add-sum : tie.Need-add-sum Inv-loop μ-loop
+add-sum c = search needs
+
+add-i : tie.Need-add-i Inv-loop μ-loop
+add-i c = search needs
+
+loop-less : tie.Need-loop-less Inv-loop μ-loop
+loop-less c = search needs
+
+loop-again : tie.Need-loop-again Inv-loop μ-loop
+loop-again c =
+    let at-loop = c .before .before .before in
+    let start = at-loop .before in
+    let four : length (start .args .t1) ≡ 4 = start .good .0 .1 .0 .1 in (
+      search needs,
+      search needs,
+      search needs,
+      omega (arith, sum-step (start .args .t1) (at-loop .loop .i) (omega arith), c .power .ensures .0),
+    )
+
+returns : tie.Need-returns Inv-loop μ-loop
+returns c =
+    let start = c .before .before in
+    let e : c .before .loop .i ≡ start .args .used = omega arith in
+    (rw (← e) (c .before .loop .inv .3), search needs)
+
+pub power-sum-spec : {M : Type 1} → statement M
+power-sum-spec =
+    tie.close
+    (tie.spec
+    Inv-loop
+    μ-loop
+    loop-holds
+    mul-e
+    array-copy-out-e
+    power-requires
+    add-sum
+    add-i
+    loop-less
+    loop-again
+    returns)

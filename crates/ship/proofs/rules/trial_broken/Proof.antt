@@ -1,0 +1,36 @@
+-- `ship::rules::trial_broken` meets its contract.
+-- Assumes nothing.
+use Rattle.ship.specs.Rules.{trial-refused}
+use Rattle.ship.proofs.Tests.{inside, engines-inside}
+use borrow.Author.Needs.{needs}
+use Rattle.ship.proofs.rules.trial_broken.Statement.{statement}
+use Rattle.ship.proofs.rules.trial_broken.Tie as tie
+
+power-sum-requires : tie.Need-power-sum-requires
+power-sum-requires c κs =
+    let start = c .before in
+    let k = engines-inside (start .args .p .used) (start .args .es) (start .pre .1) in
+    (k .0 .most, k .1)
+
+is-apart-requires : tie.Need-is-apart-requires
+is-apart-requires c κs = search needs
+
+capacity-of-requires : tie.Need-capacity-of-requires
+capacity-of-requires c κs = inside 100 600000 (c .before .before .before .args .p .deadweight .tonnes) (c .before .before .before .pre .0) .most
+
+is-apart-requires-2 : tie.Need-is-apart-requires-2
+is-apart-requires-2 c κs = search needs
+
+returns : tie.Need-returns
+unfolding trial-refused
+returns c = rw (c .is-apart2 .ensures, c .before .capacity-of .ensures .0, c .before .before .is-apart .ensures, c .before .before .before .power-sum .ensures .0)
+
+pub trial-broken-spec : {M : Type 1} → statement M
+trial-broken-spec =
+    tie.close
+    (tie.spec
+    power-sum-requires
+    is-apart-requires
+    capacity-of-requires
+    is-apart-requires-2
+    returns)

@@ -1,0 +1,79 @@
+-- The figures that a record stands for.
+-- Assumes nothing.
+use Prim.Native.Nat.{ℕ, _-_}
+use mathlib.Core.List.{List, [], _∷_, map}
+use lib.ListN.{getD, take}
+use lib.Dec.{eqb}
+use Rattle.exact.specs.Ship as exact
+use Rattle.exact.specs.Ranges as ranges
+use Rattle.exact.specs.Index.{if}
+use Rattle.ship.specs.declared.Deadweight.{Deadweight}
+use Rattle.ship.specs.declared.Range.{Range}
+use Rattle.ship.specs.declared.Consumption.{Consumption}
+use Rattle.ship.specs.declared.Engine.{Engine}
+use Rattle.ship.specs.declared.Trial.{Trial}
+use Rattle.ship.specs.declared.Ship.{Ship}
+
+-- Types and fuels by number, from 1.
+abbrev pub kind-of : ℕ → exact.Kind
+kind-of n =
+    getD
+    (exact.bulk ∷ exact.gas ∷ exact.tanker ∷ exact.container ∷ exact.refrigerated ∷ exact.combination ∷ exact.vehicle ∷ [])
+    (n - 1)
+    exact.bulk
+
+abbrev pub fuel-of : ℕ → exact.Fuel
+fuel-of n =
+    getD
+    (exact.diesel ∷ exact.light ∷ exact.heavy ∷ exact.propane ∷ exact.butane ∷ exact.lng ∷ exact.methanol ∷ exact.ethanol ∷ [])
+    (n - 1)
+    exact.diesel
+
+abbrev pub range-of : Range → ranges.Range
+range-of r = record { low = r .low; high = r .high }
+
+abbrev pub deadweight-of : Deadweight → exact.Deadweight
+deadweight-of d = record { tonnes = d .tonnes }
+
+-- Sources 1 and 2 have a consumption of their own, source 3 has none.
+unfoldable pub uses-of : Consumption → exact.Consumption ranges.Range
+uses-of c = if (eqb (c .source) 3) exact.neither (exact.recorded (range-of (c .sfc)) (fuel-of (c .fuel)))
+
+unfoldable pub engine-of : Engine → exact.Engine ranges.Range
+engine-of e = record { mcr = range-of (e .mcr); limit = e .limit; uses = uses-of (e .uses) }
+
+-- The engines that are used.
+unfoldable pub mains : ℕ → List Engine → List (exact.Engine ranges.Range)
+mains used es = map engine-of (take used es)
+
+unfoldable pub auxiliary-of : ℕ → ℕ → exact.Auxiliary
+auxiliary-of method power = if (eqb method 2) (exact.table power) exact.rule
+
+-- Speed methods by number, from 1.
+unfoldable pub method-of : ℕ → Range → Trial → exact.Method ranges.Range
+method-of method speed t =
+    getD
+    (exact.declared (range-of speed)
+    ∷ exact.trial (range-of speed) (t .power)
+    ∷ exact.design-trial (range-of speed) (t .power) (deadweight-of (t .deadweight))
+    ∷ exact.statistical
+    ∷ [])
+    (method - 1)
+    exact.statistical
+
+unfoldable pub figures : Ship → exact.Figures ranges.Range
+figures s =
+    let p = s .particulars in
+    record {
+      ship = record {
+        kind = kind-of (p .kind);
+        deadweight = deadweight-of (p .deadweight);
+        gross = record { gt = p .gross .gt };
+        volume = p .volume;
+        auxiliary = auxiliary-of (p .auxiliary) (p .table);
+        ice = eqb (p .ice) 1;
+      };
+      engines = mains (p .used) (s .engines);
+      auxiliary-uses = uses-of (s .auxiliary);
+      method = method-of (p .method) (s .speed) (p .trial);
+    }

@@ -1,0 +1,5 @@
+pub mod Record
+pub mod Refusals
+pub mod Figures
+pub mod Rules
+pub mod Accepted

@@ -1,0 +1,180 @@
+-- The refusals of a record, 4 to 16: each definition says when its refusal is given, and one list has them in order of checking.
+-- Assumes nothing.
+use Prim.Native.Nat.{ℕ, _+_, _*_, _/_, _%_}
+use mathlib.Core.List.{List, [], _∷_}
+use mathlib.Core.Bool.{Bool, true, false, _&&_, _||_, not}
+use lib.ListN.{getD}
+use lib.Dec.{eqb, ltb, leb}
+use Rattle.exact.specs.Index.{if, sum-P-ME}
+use Rattle.exact.specs.Ranges.{engines-at, low}
+use Rattle.ship.specs.Record.{no-engine}
+use Rattle.ship.specs.Refusals.{first-of}
+use Rattle.ship.specs.Figures.{mains}
+use Rattle.ship.specs.declared.Deadweight.{Deadweight}
+use Rattle.ship.specs.declared.GrossTonnage.{GrossTonnage}
+use Rattle.ship.specs.declared.Range.{Range}
+use Rattle.ship.specs.declared.Consumption.{Consumption}
+use Rattle.ship.specs.declared.Engine.{Engine}
+use Rattle.ship.specs.declared.Particulars.{Particulars}
+use Rattle.ship.specs.declared.Ship.{Ship}
+use Rattle.ship.specs.declared.Refusal.{Refusal}
+use Rattle.ship.specs.declared.Refusal.the-variants as refusal
+
+-- ── Words ───────────────────────────────────────────────────────────────────────────────────
+
+-- Not lo–hi.
+abbrev pub outside : ℕ → ℕ → ℕ → Bool
+outside lo hi n = ltb n lo || ltb hi n
+
+abbrev pub between : ℕ → ℕ → ℕ → Bool
+between lo hi n = leb lo n && leb n hi
+
+abbrev pub nonzero : ℕ → Bool
+nonzero n = not (eqb n 0)
+
+-- Of the four entries, one of the first n, which are used, has t; or one of the others.
+abbrev pub any-used : (Engine → Bool) → ℕ → List Engine → Bool
+any-used t n es =
+    ltb 0 n && t (getD es 0 no-engine)
+    || ltb 1 n && t (getD es 1 no-engine)
+    || ltb 2 n && t (getD es 2 no-engine)
+    || ltb 3 n && t (getD es 3 no-engine)
+
+abbrev pub any-unused : (Engine → Bool) → ℕ → List Engine → Bool
+any-unused t n es =
+    leb n 0 && t (getD es 0 no-engine)
+    || leb n 1 && t (getD es 1 no-engine)
+    || leb n 2 && t (getD es 2 no-engine)
+    || leb n 3 && t (getD es 3 no-engine)
+
+-- ── Given exactly when ──────────────────────────────────────────────────────────────────────
+
+-- The first six of seven digits weighted 7, 6, 5, 4, 3, 2 and summed.
+abbrev pub weighted : ℕ → ℕ
+weighted n =
+    7 * (n / 1000000) + 6 * (n / 100000 % 10) + 5 * (n / 10000 % 10) + 4 * (n / 1000 % 10) + 3 * (n / 100 % 10) + 2 * (n / 10 % 10)
+
+-- 4: IMO number not seven digits from 1,000,000, or the last digit isn't the last digit of the first six weighted and summed.
+abbrev pub imo-refused : ℕ → Bool
+imo-refused n = outside 1000000 9999999 n || not (eqb (weighted n % 10) (n % 10))
+
+-- 5: type not 1–7.
+abbrev pub type-refused : ℕ → Bool
+type-refused kind = outside 1 7 kind
+
+-- 6: deadweight not 100–600,000.
+abbrev pub deadweight-refused : Deadweight → Bool
+deadweight-refused d = outside 100 600000 (d .tonnes)
+
+-- 7: gross tonnage: type 7 not 100–400,000; others not 0.
+abbrev pub gross-refused : ℕ → GrossTonnage → Bool
+gross-refused kind g = eqb kind 7 && outside 100 400000 (g .gt) || not (eqb kind 7) && nonzero (g .gt)
+
+-- 8: cargo volume: type 1 not 100–1,000,000; others not 0.
+abbrev pub volume-refused : ℕ → ℕ → Bool
+volume-refused kind volume = eqb kind 1 && outside 100 1000000 volume || not (eqb kind 1) && nonzero volume
+
+-- 9: engines not 1–4; a used MCR end not 100–120,000; a limit neither 0 nor 100 to the low MCR.
+abbrev pub engine-refused : Engine → Bool
+engine-refused e =
+    outside 100 120000 (e .mcr .low) || outside 100 120000 (e .mcr .high)
+    || nonzero (e .limit) && outside 100 (e .mcr .low) (e .limit)
+
+abbrev pub engines-refused : ℕ → List Engine → Bool
+engines-refused used es = outside 1 4 used || any-used engine-refused used es
+
+-- 10: a used source not 1–3; source 1 or 2 with an SFC end not 500–4,000 or fuel not 1–8; source 3 with SFC or fuel not 0.
+abbrev pub uses-refused : Consumption → Bool
+uses-refused c =
+    outside 1 3 (c .source)
+    || (eqb (c .source) 1 || eqb (c .source) 2)
+    && (outside 500 4000 (c .sfc .low) || outside 500 4000 (c .sfc .high) || outside 1 8 (c .fuel))
+    || eqb (c .source) 3 && (nonzero (c .sfc .low) || nonzero (c .sfc .high) || nonzero (c .fuel))
+
+abbrev pub consumption-refused : Consumption → ℕ → List Engine → Bool
+consumption-refused auxiliary used es = uses-refused auxiliary || any-used (λ e. uses-refused (e .uses)) used es
+
+-- 11: auxiliary method not 1–2; rule with table power not 0; table with power not 1–50,000.
+abbrev pub auxiliary-refused : ℕ → ℕ → Bool
+auxiliary-refused method power =
+    outside 1 2 method || eqb method 1 && nonzero power || eqb method 2 && outside 1 50000 power
+
+-- 12: ice byte not 0 or 1.
+abbrev pub ice-refused : ℕ → Bool
+ice-refused ice = ltb 1 ice
+
+-- 13: method not 1–4; method 3 with another type; methods 1–3 with a speed end not 500–6,000; method 4 with one not 0.
+abbrev pub speed-refused : ℕ → ℕ → Range → Bool
+speed-refused method kind speed =
+    outside 1 4 method
+    || eqb method 3 && (not (eqb kind 1) && not (eqb kind 3) && not (eqb kind 4))
+    || between 1 3 method && (outside 500 6000 (speed .low) || outside 500 6000 (speed .high))
+    || eqb method 4 && (nonzero (speed .low) || nonzero (speed .high))
+
+-- 14: outside unused engine entries: a low end above its high; methods 2–4 with speed or MCR ends that differ.
+abbrev pub crossed : Range → Bool
+crossed r = ltb (r .high) (r .low)
+
+abbrev pub range-refused : ℕ → Range → Bool
+range-refused method r = crossed r || between 2 4 method && not (eqb (r .low) (r .high))
+
+abbrev pub engine-crossed : ℕ → Engine → Bool
+engine-crossed method e = range-refused method (e .mcr) || crossed (e .uses .sfc)
+
+abbrev pub ranges-refused : Ship → Bool
+ranges-refused s =
+    range-refused (s .particulars .method) (s .speed) || crossed (s .auxiliary .sfc)
+    || any-used (engine-crossed (s .particulars .method)) (s .particulars .used) (s .engines)
+
+-- Capacity in hundredths of a tonne: deadweight; for container ships 70 % of it.
+abbrev pub capacity : ℕ → Deadweight → ℕ
+capacity kind d = if (eqb kind 4) (70 * d .tonnes) (100 * d .tonnes)
+
+-- A whole number and one of hundredths: either is above 5 times the other.
+abbrev pub apart : ℕ → ℕ → Bool
+apart whole hundredths = ltb (5 * hundredths) (100 * whole) || ltb (5 * (100 * whole)) hundredths
+
+-- 15: methods 1, 4: trial power or deadweight not 0. Methods 2, 3: trial power not 1–600,000, or it or sum P_ME above 5 times
+-- the other. Method 2: trial deadweight not 0. Method 3: trial deadweight or Capacity above 5 times the other, or trial
+-- deadweight 0. (Of methods 2 and 3 no MCR is a range, by 14.)
+unfoldable pub trial-refused : Particulars → List Engine → Bool
+trial-refused p es =
+    let method = p .method in
+    let power = p .trial .power in
+    let load = p .trial .deadweight .tonnes in
+    (eqb method 1 || eqb method 4) && (nonzero power || nonzero load)
+    || (eqb method 2 || eqb method 3) && (outside 1 600000 power || apart power (sum-P-ME (engines-at low (mains (p .used) es))))
+    || eqb method 2 && nonzero load
+    || eqb method 3 && (eqb load 0 || apart load (capacity (p .kind) (p .deadweight)))
+
+-- 16: an unused engine entry isn't zero.
+abbrev pub occupied : Engine → Bool
+occupied e =
+    nonzero (e .mcr .low) || nonzero (e .mcr .high) || nonzero (e .limit) || nonzero (e .uses .sfc .low) || nonzero (e .uses .sfc .high)
+    || nonzero (e .uses .fuel)
+    || nonzero (e .uses .source)
+
+-- ── In order of checking ────────────────────────────────────────────────────────────────────
+
+unfoldable pub tests : Ship → List (Bool × Refusal)
+tests s =
+    let p = s .particulars in
+    let es = s .engines in
+    (imo-refused (p .imo), refusal.ImoNumber)
+    ∷ (type-refused (p .kind), refusal.ShipType)
+    ∷ (deadweight-refused (p .deadweight), refusal.Deadweight)
+    ∷ (gross-refused (p .kind) (p .gross), refusal.GrossTonnage)
+    ∷ (volume-refused (p .kind) (p .volume), refusal.CargoVolume)
+    ∷ (engines-refused (p .used) es, refusal.Engines)
+    ∷ (consumption-refused (s .auxiliary) (p .used) es, refusal.Consumption)
+    ∷ (auxiliary-refused (p .auxiliary) (p .table), refusal.AuxiliaryPower)
+    ∷ (ice-refused (p .ice), refusal.IceClass)
+    ∷ (speed-refused (p .method) (p .kind) (s .speed), refusal.Speed)
+    ∷ (ranges-refused s, refusal.Ranges)
+    ∷ (trial-refused p es, refusal.Trial)
+    ∷ (any-unused occupied (p .used) es, refusal.Unused)
+    ∷ []
+
+-- The first refusal of a record, or none.
+unfoldable pub refusal-of : Ship → Refusal
+refusal-of s = first-of (tests s) refusal.None

@@ -1,0 +1,153 @@
+// A ship's record, by value. Numbers are as its block has them; what they may be is said by the rules.
+mod power;
+pub mod rules;
+
+ghost use mathlib.Core.Path.{_≡_};
+ghost use Rattle.ship.specs.Record.{empty-ship};
+ghost use Rattle.ship.specs.Refusals.{number-of};
+
+// Deadweight in tonnes and gross tonnage are types of their own, so that neither is accepted for the other.
+pub struct Deadweight {
+    pub tonnes: u64,
+}
+
+pub struct GrossTonnage {
+    pub gt: u64,
+}
+
+// Both ends count.
+pub struct Range {
+    pub low: u64,
+    pub high: u64,
+}
+
+// SFC in 1/10 g/kWh. Source 1 is a test report, 2 the maker or a verifier, 3 neither.
+pub struct Consumption {
+    pub sfc: Range,
+    pub fuel: u64,
+    pub source: u64,
+}
+
+// MCR and limit in kW; limit 0 is no limiter.
+pub struct Engine {
+    pub mcr: Range,
+    pub limit: u64,
+    pub uses: Consumption,
+}
+
+// The trial of speed methods 2 and 3; power in kW.
+pub struct Trial {
+    pub power: u64,
+    pub deadweight: Deadweight,
+}
+
+// What is never a range. Volume in m³; auxiliary power 1 is by the rule, 2 the table's kW; the first `used` engine entries count.
+pub struct Particulars {
+    pub imo: u64,
+    pub kind: u64,
+    pub deadweight: Deadweight,
+    pub gross: GrossTonnage,
+    pub volume: u64,
+    pub method: u64,
+    pub trial: Trial,
+    pub auxiliary: u64,
+    pub table: u64,
+    pub ice: u64,
+    pub used: u64,
+}
+
+// Speed in 1/100 knot. Four engine entries stand in every record, used or not.
+pub struct Ship {
+    pub particulars: Particulars,
+    pub speed: Range,
+    pub auxiliary: Consumption,
+    pub engines: [Engine; 4],
+}
+
+// The first rule that a block, a record or a write breaks.
+pub enum Refusal {
+    None,
+    Length,
+    Check,
+    Layout,
+    ImoNumber,
+    ShipType,
+    Deadweight,
+    GrossTonnage,
+    CargoVolume,
+    Engines,
+    Consumption,
+    AuxiliaryPower,
+    IceClass,
+    Speed,
+    Ranges,
+    Trial,
+    Unused,
+    NoBlock,
+}
+
+// The document's number of a refusal; 0 is none.
+pub fn number(refusal: Refusal) -> u8
+    ensures { λ r. ⌜ r ≡ number-of refusal ⌝ }
+{
+    match refusal {
+        Refusal::None => 0,
+        Refusal::Length => 1,
+        Refusal::Check => 2,
+        Refusal::Layout => 3,
+        Refusal::ImoNumber => 4,
+        Refusal::ShipType => 5,
+        Refusal::Deadweight => 6,
+        Refusal::GrossTonnage => 7,
+        Refusal::CargoVolume => 8,
+        Refusal::Engines => 9,
+        Refusal::Consumption => 10,
+        Refusal::AuxiliaryPower => 11,
+        Refusal::IceClass => 12,
+        Refusal::Speed => 13,
+        Refusal::Ranges => 14,
+        Refusal::Trial => 15,
+        Refusal::Unused => 16,
+        Refusal::NoBlock => 17,
+    }
+}
+
+// The record that stands where there is none.
+pub fn empty() -> Ship
+    ensures { λ r. ⌜ r ≡ empty-ship ⌝ }
+{
+    let none = Range { low: 0, high: 0 };
+    let uses = Consumption {
+        sfc: none,
+        fuel: 0,
+        source: 0,
+    };
+    let engine = Engine {
+        mcr: none,
+        limit: 0,
+        uses,
+    };
+    let trial = Trial {
+        power: 0,
+        deadweight: Deadweight { tonnes: 0 },
+    };
+    let particulars = Particulars {
+        imo: 0,
+        kind: 0,
+        deadweight: Deadweight { tonnes: 0 },
+        gross: GrossTonnage { gt: 0 },
+        volume: 0,
+        method: 0,
+        trial,
+        auxiliary: 0,
+        table: 0,
+        ice: 0,
+        used: 0,
+    };
+    Ship {
+        particulars,
+        speed: none,
+        auxiliary: uses,
+        engines: [engine, engine, engine, engine],
+    }
+}

@@ -1,0 +1,50 @@
+// Power of the main engines and Capacity, where rule 15 asks for them.
+use crate::Deadweight;
+use crate::Engine;
+ghost use mathlib.Core.Path.{_≡_};
+ghost use mathlib.Core.Bool.{false};
+ghost use Prim.Native.Nat.{ℕ, _*_, _≤_, _<_};
+ghost use lib.ListN.{getD};
+ghost use Rattle.exact.specs.Index.{P-ME, sum-P-ME};
+ghost use Rattle.exact.specs.Ranges.{engines-at, low};
+ghost use Rattle.ship.specs.Record.{no-engine};
+ghost use Rattle.ship.specs.Figures.{mains};
+ghost use Rattle.ship.specs.Rules.{engine-refused, capacity};
+
+// P_ME of one engine, in hundredths of a kW.
+pub fn power(mcr: u64, limit: u64) -> u64
+    requires { ⌜ (mcr ≤ 120000) × (limit ≤ 120000) ⌝ }
+    ensures { λ r. ⌜ (r ≡ P-ME mcr limit) × (r ≤ 9000000) ⌝ }
+{
+    let full = 75 * mcr;
+    if limit == 0 {
+        return full;
+    }
+    let limited = 83 * limit;
+    if limited < full { limited } else { full }
+}
+
+// The sum of P_ME over the engines that are used, each at its low MCR, in hundredths of a kW.
+pub fn power_sum(engines: [Engine; 4], used: u64) -> u64
+    requires { ⌜ (used ≤ 4) × ((i : ℕ) → i < used → engine-refused (getD engines i no-engine) ≡ false) ⌝ }
+    ensures { λ r. ⌜ (r ≡ sum-P-ME (engines-at low (mains used engines))) × (r ≤ 36000000) ⌝ }
+{
+    let n = used as usize;
+    let mut sum: u64 = 0;
+    let mut i: usize = 0;
+    while i < n {
+        let e = engines[i];
+        sum += power(e.mcr.low, e.limit);
+        i += 1;
+    }
+    sum
+}
+
+// Capacity in hundredths of a tonne.
+pub fn capacity_of(kind: u64, deadweight: Deadweight) -> u64
+    requires { ⌜ deadweight .tonnes ≤ 600000 ⌝ }
+    ensures { λ r. ⌜ (r ≡ capacity kind deadweight) × (r ≤ 60000000) ⌝ }
+{
+    let t = deadweight.tonnes;
+    if kind == 4 { 70 * t } else { 100 * t }
+}
