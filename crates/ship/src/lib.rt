@@ -1,5 +1,5 @@
 // A ship's record, by value. Numbers are as its block has them; what they may be is said by the rules.
-mod power;
+pub mod power;
 pub mod rules;
 
 ghost use mathlib.Core.Path.{_≡_};
