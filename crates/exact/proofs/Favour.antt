@@ -21,7 +21,7 @@ unfolding emission
 emission-mono stand-in (same-fuel h) = ⊑-product (⊑-refl _) (⊑-lit (over-mono 10 h))
 emission-mono stand-in no-source = ⊑-refl _
 
-P-ME-mono : {m m' : ℕ} (l : ℕ) → m ≤ m' → P-ME m l ≤ P-ME m' l
+pub P-ME-mono : {m m' : ℕ} (l : ℕ) → m ≤ m' → P-ME m l ≤ P-ME m' l
 unfolding P-ME
 P-ME-mono zero h = omega arith
 P-ME-mono (suc l) h = omega arith
@@ -31,7 +31,7 @@ unfolding main-emission
 main-emission-mono no-more = ⊑-refl _
 main-emission-mono (one-more {limit = l} h c r) = ⊑-sum (⊑-product (⊑-lit (over-mono 100 (P-ME-mono l h))) (emission-mono _ c)) (main-emission-mono r)
 
-rated-mono : {es es' : List (Engine ℕ)} → Engines _≤_ es es' → rated es ≤ rated es'
+pub rated-mono : {es es' : List (Engine ℕ)} → Engines _≤_ es es' → rated es ≤ rated es'
 unfolding rated
 rated-mono no-more = omega arith
 rated-mono (one-more h c r) = add-le-add h (rated-mono r)
@@ -56,11 +56,11 @@ index-mono s m m' e c v =
 -- ── Two records that are alike, read the other way round ────────────────────────────────────
 
 module _ {N M : Type 0} {R : N → M → Type 0} where
-  turn-uses : {c : Consumption N} {c' : Consumption M} → Uses R c c' → Uses (λ m n. R n m) c' c
+  pub turn-uses : {c : Consumption N} {c' : Consumption M} → Uses R c c' → Uses (λ m n. R n m) c' c
   turn-uses (same-fuel h) = same-fuel h
   turn-uses no-source = no-source
 
-  turn-engines : {es : List (Engine N)} {es' : List (Engine M)} → Engines R es es' → Engines (λ m n. R n m) es' es
+  pub turn-engines : {es : List (Engine N)} {es' : List (Engine M)} → Engines R es es' → Engines (λ m n. R n m) es' es
   turn-engines no-more = no-more
   turn-engines (one-more h c r) = one-more h (turn-uses c) (turn-engines r)
 
@@ -74,12 +74,12 @@ module _ {N M : Type 0} {R : N → M → Type 0} where
 
 -- Where R of a range says R' of its end p, two records alike by R are alike by R' at that end.
 module _ {M : Type 0} {R : Range → M → Type 0} {R' : ℕ → M → Type 0} (p : Range → ℕ) (step : (r : Range) (m : M) → R r m → R' (p r) m) where
-  uses-end : {c : Consumption Range} {c' : Consumption M} → Uses R c c' → Uses R' (uses-at p c) c'
+  pub uses-end : {c : Consumption Range} {c' : Consumption M} → Uses R c c' → Uses R' (uses-at p c) c'
   unfolding uses-at
   uses-end (same-fuel h) = same-fuel (step _ _ h)
   uses-end no-source = no-source
 
-  engines-end : {es : List (Engine Range)} {es' : List (Engine M)} → Engines R es es' → Engines R' (engines-at p es) es'
+  pub engines-end : {es : List (Engine Range)} {es' : List (Engine M)} → Engines R es es' → Engines R' (engines-at p es) es'
   unfolding engines-at
   engines-end no-more = no-more
   engines-end (one-more h c r) = one-more (step _ _ h) (uses-end c) (engines-end r)
@@ -144,7 +144,7 @@ inside-enclosed i s = enclosed-between (above-most i s) (below-least i s)
 
 -- The two ends of narrowed ranges are ships inside the wider ones, so narrowing moves neither exact index outward.
 module _ (p q : Range → ℕ) (hp : (r' r : Range) → narrows r r' → within r (p r')) (hq : (r' r : Range) → narrows r r' → within r (q r')) where
-  ship-inside : {r r' : Figures Range} → Narrowed r r' → Inside r (ship-at p q r')
+  pub ship-inside : {r r' : Figures Range} → Narrowed r r' → Inside r (ship-at p q r')
   unfolding ship-at
   ship-inside (alike e c v) =
       alike
@@ -152,10 +152,10 @@ module _ (p q : Range → ℕ) (hp : (r' r : Range) → narrows r r' → within 
       (turn-uses (uses-end p hp (turn-uses c)))
       (turn-speeds (speeds-end q hq (turn-speeds v)))
 
-low-inside : (r' r : Range) → narrows r r' → within r (low r')
+pub low-inside : (r' r : Range) → narrows r r' → within r (low r')
 low-inside r' r h = omega arith
 
-high-inside : (r' r : Range) → narrows r r' → within r (high r')
+pub high-inside : (r' r : Range) → narrows r r' → within r (high r')
 high-inside r' r h = omega arith
 
 pub narrowed-most : {r r' : Figures Range} → Narrowed r r' → Settled (r .method) (r .engines) → index (most-favourable r) ⊑ index (most-favourable r')

@@ -53,7 +53,7 @@ kind-back : (k : ℕ) → Within 1 7 k → number-of-kind (kind-of k) ≡ k
 unfolding number-of-kind
 kind-back = of-seven (λ k. number-of-kind (kind-of k) ≡ k) refl refl refl refl refl refl refl
 
-capacity-same : (d : Deadweight) (k : ℕ) → Within 1 7 k → capacity k d ≡ hundredths (kind-of k) (deadweight-of d)
+pub capacity-same : (d : Deadweight) (k : ℕ) → Within 1 7 k → capacity k d ≡ hundredths (kind-of k) (deadweight-of d)
 capacity-same d = of-seven (λ k. capacity k d ≡ hundredths (kind-of k) (deadweight-of d)) refl refl refl refl refl refl refl
 
 draught : (k : ℕ) → Within 1 7 k → not (eqb k 1) && not (eqb k 3) && not (eqb k 4) ≡ false → By-design-draught (kind-of k)
@@ -119,7 +119,7 @@ single (one-more h hs) = (h, single hs)
 
 -- ── The sum of P_ME, at either end ──────────────────────────────────────────────────────────
 
-power-within : (mcr floor limit : ℕ) → 100 ≤ mcr → mcr ≤ 120000 → Limited floor limit → Within 7500 9000000 (P-ME mcr limit)
+pub power-within : (mcr floor limit : ℕ) → 100 ≤ mcr → mcr ≤ 120000 → Limited floor limit → Within 7500 9000000 (P-ME mcr limit)
 power-within mcr floor _ h k no-limiter = rw (power-free mcr) (record { least = omega arith; most = omega arith })
 power-within mcr floor limit h k (limiter w) =
     rw (power-limited mcr limit (omega (arith, w .least))) (record { least = omega (arith, w .least); most = omega arith })

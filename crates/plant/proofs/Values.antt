@@ -1,0 +1,52 @@
+-- The whole numbers are the values of the index's formulas.
+-- Assumes nothing.
+use Prim.Native.Nat.{ℕ, _+_, _*_}
+use mathlib.Core.Bool.{Bool, true, false}
+use mathlib.Core.List.{List, [], _∷_}
+use native.Mathlib.Omega.{arith}
+use Rattle.exact.specs.Formula.{_//_, Enclosed}
+use Rattle.exact.specs.Ship.{Deadweight, Kind, Consumption, recorded, neither, Engine, Auxiliary, rule, table, Figures}
+use Rattle.exact.specs.Index.{if, whole, percent, container?, C-F, emission, P-ME, main-emission, rated, P-AE, Capacity, f-m, emissions}
+use Rattle.exact.specs.Formula.{Formula, _⊗_}
+use Rattle.exact.proofs.Formulas.{enclosed-≈, enclosed-lit, enclosed-sum, enclosed-product}
+use Rattle.ship.specs.Accepted.{hundredths}
+use Rattle.plant.specs.Plant.{grams, main-grams, auxiliary-power, N, ice-factor}
+
+-- n k-ths is the value of a formula.
+abbrev pub Exactly : Formula → ℕ → ℕ → Type 0
+Exactly e n k = Enclosed e (n // k) (n // k)
+
+grams-exact : (stand-in : ℕ) (c : Consumption ℕ) → Exactly (emission stand-in c) (grams stand-in c) 10000
+unfolding emission grams
+grams-exact stand-in (recorded sfc fuel) = enclosed-≈ (enclosed-product (enclosed-lit _) (enclosed-lit _)) (omega arith)
+grams-exact stand-in neither = enclosed-≈ (enclosed-product (enclosed-lit _) (enclosed-lit _)) (omega arith)
+
+main-exact : (es : List (Engine ℕ)) → Exactly (main-emission es) (main-grams es) 1000000
+unfolding main-emission main-grams
+main-exact [] = enclosed-≈ (enclosed-lit _) (omega arith)
+main-exact (e ∷ es) = enclosed-≈ (enclosed-sum (enclosed-product (enclosed-lit _) (grams-exact 190 (e .uses))) (main-exact es)) (omega arith)
+
+auxiliary-exact : (a : Auxiliary) (mcr : ℕ) → Exactly (P-AE a mcr) (auxiliary-power a mcr) 1000
+unfolding P-AE auxiliary-power
+auxiliary-exact rule mcr = enclosed-lit _
+auxiliary-exact (table kW) mcr = enclosed-≈ (enclosed-lit _) (omega arith)
+
+pub emissions-exact : (f : Figures ℕ) → Exactly (emissions f) (N f) 10000000
+unfolding emissions N
+emissions-exact f =
+    enclosed-≈
+    (enclosed-sum (main-exact (f .engines)) (enclosed-product (auxiliary-exact (f .ship .auxiliary) _) (grams-exact 215 (f .auxiliary-uses))))
+    (omega arith)
+
+pub capacity-exact : (kind : Kind) (dwt : Deadweight) → Exactly (Capacity kind dwt) (hundredths kind dwt) 100
+unfolding Capacity
+capacity-exact kind dwt = go (container? kind)
+  where
+    go : (b : Bool) → Exactly (if b (percent 70 ⊗ whole (dwt .tonnes)) (whole (dwt .tonnes))) (if b (70 * dwt .tonnes) (100 * dwt .tonnes)) 100
+    go true = enclosed-≈ (enclosed-product (enclosed-lit _) (enclosed-lit _)) (omega arith)
+    go false = enclosed-≈ (enclosed-lit _) (omega arith)
+
+pub ice-exact : (ice : Bool) → Exactly (f-m ice) (ice-factor ice) 100
+unfolding f-m ice-factor
+ice-exact true = enclosed-lit _
+ice-exact false = enclosed-≈ (enclosed-lit _) (omega arith)

@@ -1,0 +1,45 @@
+-- Emissions and factors of a ship as whole numbers: the values of the index's formulas, in the units of the calculation.
+-- Assumes nothing.
+use Prim.Native.Nat.{ℕ, _+_, _*_}
+use mathlib.Core.Bool.{Bool, true, false, not}
+use mathlib.Core.List.{List, [], _∷_}
+use Rattle.exact.specs.Ship.{Consumption, recorded, neither, Engine, Auxiliary, rule, table, Figures}
+use Rattle.exact.specs.Ranges.{Range, low, high, ship-at}
+use Rattle.exact.specs.Index.{if, C-F, P-ME, sum-P-ME, rated, by-rule}
+use Rattle.plant.specs.declared.Sums.{Sums}
+
+-- One end of a range.
+abbrev pub end : Bool → Range → ℕ
+end true = high
+end false = low
+
+-- A ship at one end of every range, of the speed at the other: `at-end false` is the most favourable, `at-end true` the least.
+abbrev pub at-end : Bool → Figures Range → Figures ℕ
+at-end top = ship-at (end top) (end (not top))
+
+-- C_F × SFC in 1/10,000 g/kWh: thousandths times tenths.
+unfoldable pub grams : ℕ → Consumption ℕ → ℕ
+grams stand-in (recorded sfc fuel) = C-F fuel * sfc
+grams stand-in neither = 3114 * (10 * stand-in)
+
+-- The sum over main engines of P_ME × C_F × SFC, in 10^-6 g/h.
+unfoldable pub main-grams : List (Engine ℕ) → ℕ
+main-grams [] = 0
+main-grams (e ∷ es) = P-ME (e .mcr) (e .limit) * grams 190 (e .uses) + main-grams es
+
+-- P_AE in 1/1000 kW.
+unfoldable pub auxiliary-power : Auxiliary → ℕ → ℕ
+auxiliary-power rule mcr = by-rule mcr
+auxiliary-power (table kW) mcr = 1000 * kW
+
+-- Emissions in 10^-7 g/h.
+unfoldable pub N : Figures ℕ → ℕ
+N f = 10 * main-grams (f .engines) + auxiliary-power (f .ship .auxiliary) (rated (f .engines)) * grams 215 (f .auxiliary-uses)
+
+-- f_m in hundredths.
+unfoldable pub ice-factor : Bool → ℕ
+ice-factor ice = if ice 105 100
+
+-- The three sums over main engines.
+abbrev pub sums-of : List (Engine ℕ) → Sums
+sums-of es = record { power = sum-P-ME es; rated = rated es; grams = main-grams es }
