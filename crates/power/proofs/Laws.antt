@@ -1,11 +1,12 @@
 -- The laws of the power by name: what its users may know of it. Assumes nothing.
 use mathlib.Core.Path.{_≡_}
 use Prim.Native.Nat.{ℕ, _+_, _*_, _^_, _≤_, _<_}
+use native.Mathlib.Nat.{le-trans, le-of-eq, mul-comm, suc-pred-eq-of-pos}
 use native.Mathlib.Omega.{arith}
-use Rattle.exact.specs.Formula.{_//_, _≼_, Side, below, above, lies, lies-power}
-use Rattle.exact.proofs.Fractions.{≼-refl}
+use Rattle.exact.specs.Formula.{_//_, _≼_, Side, below, above, other, lies, lies-power}
+use Rattle.exact.proofs.Fractions.{≼-refl, over-≼}
 use Rattle.exact.proofs.Formulas.{power-between}
-use Rattle.exact.proofs.Powers.{power-base, power-out}
+use Rattle.exact.proofs.Powers.{power-base, power-out, power-below, power-above, whole-below, whole-above}
 use Rattle.power.specs.declared.Pair.{Pair}
 use Rattle.power.specs.Numbers.{unit, val, Norm}
 use Rattle.power.specs.Steps.{baseOf, rootsOf}
@@ -23,6 +24,21 @@ in-words t u a b p q h = h
 pub rescaled : (s : Side) (t u v k a b p q : ℕ) → lies s (v // k) (t // u) → BoundsPower s t u a b p q → BoundsPower s v k a b p q
 unfolding BoundsPower
 rescaled s t u v k a b p q out h = power-out out h
+
+-- The inverse lies on the other side of the inverse's power.
+pub inverted : (s : Side) (t u a b p q : ℕ) → 0 < t → 0 < u → 0 < a → 0 < b → 0 < q → BoundsPower s t u a b p q → BoundsPower (other s) u t b a p q
+unfolding BoundsPower
+inverted below t u a b p q tpos upos apos bpos qpos h =
+    power-above u b p tpos apos qpos (le-trans (le-of-eq (mul-comm _ _)) (le-trans (whole-below t a p upos bpos qpos h) (le-of-eq (mul-comm _ _))))
+inverted above t u a b p q tpos upos apos bpos qpos h =
+    power-below u b p tpos apos qpos (le-trans (le-of-eq (mul-comm _ _)) (le-trans (whole-above t a p upos bpos qpos h) (le-of-eq (mul-comm _ _))))
+
+-- What is below the power of a fraction that is at most m / m' is at most c / e, where that is at least the power of m / m'.
+pub capped : (t u a b p q m m' c e : ℕ) → 0 < u → 0 < b → 0 < q → 0 < m' → 0 < e → a * m' ≤ m * b → m ^ p * e ^ q ≤ c ^ q * m' ^ p → BoundsPower below t u a b p q → t * e ≤ c * u
+unfolding BoundsPower
+capped t u a b p q m m' c e upos bpos qpos mpos epos small big h =
+    let x : t // u ≼ c // e = power-between h (power-above c m p epos mpos qpos big) (over-≼ a m bpos mpos small) in
+    rw (suc-pred-eq-of-pos upos, suc-pred-eq-of-pos epos) at (x .cross)
 
 module _ {a b p q : ℕ} (given : Raisable a b p q) where
   pub base-of : Based a b (baseOf a b)

@@ -4,3 +4,6 @@ pub mod Sides
 pub mod Statistics
 pub mod Reach
 pub mod MethodFour
+pub mod Trials
+pub mod Designs
+pub mod Laws

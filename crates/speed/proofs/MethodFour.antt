@@ -113,11 +113,11 @@ module _ (kind : Kind) (dwt : Deadweight) (P : ℕ) (w : Within 100 600000 (dwt 
         let size : 100 ≤ sized 95000 kind dwt = sized-within 95000 kind dwt (lit≤ tt) w .least in
         let k : 0 < row kind .A * 100000 = omega (arith, fit .a-low) in
         let wide : o .lo * (row kind .A * 100000) ≤ unit * v .hi * 10 =
-            spread (o .lo) unit (sized 95000 kind dwt) (row kind .F) (v .hi) (row kind .A * 100000) (sized 80000 kind dwt) (row kind .C) 100000 50000 (cuts .factor) 10 (lit< tt) k (lit< tt)
-            (le-trans (lit≤ tt) size) (cuts .some) (cuts .wide) (cuts .small) (fit .spread) (omega (arith, fit .c-high)) refl (power-side below) (a .holds above) in
+        spread (o .lo) unit (sized 95000 kind dwt) (row kind .F) (v .hi) (row kind .A * 100000) (sized 80000 kind dwt) (row kind .C) 100000 50000 (cuts .factor) 10 (lit< tt) k (lit< tt)
+        (le-trans (lit≤ tt) size) (cuts .some) (cuts .wide) (cuts .small) (fit .spread) (omega (arith, fit .c-high)) refl (power-side below) (a .holds above) in
         let far : v .lo * unit * 3 ≤ row kind .A * 100000 * o .hi * 2 =
-            apart (o .hi) unit (sized 95000 kind dwt) (row kind .F) (v .lo) (row kind .A * 100000) (sized 80000 kind dwt) (row kind .C) 100000 30000 (lit< tt) k (lit< tt)
-            size (cuts .order) (fit .apart) refl (power-side above) (a .holds below) in
+        apart (o .hi) unit (sized 95000 kind dwt) (row kind .F) (v .lo) (row kind .A * 100000) (sized 80000 kind dwt) (row kind .C) 100000 30000 (lit< tt) k (lit< tt)
+        size (cuts .order) (fit .apart) refl (power-side above) (a .holds below) in
         let slow : 1050000 ≤ r .hi = slowest (r .hi) (o .lo) (row kind .A) (row kind .D) unit (v .hi) (lessMarginOf (v .hi) + 1) P (over-some below) (fit .d-low) (strong .least) wide (kept (v .hi) .first) (fit .strong) (x .above) in
         let fast : r .lo ≤ 280000000 = fastest (r .lo) (o .hi) (row kind .A) (row kind .D) unit (v .lo) (lessMarginOf (v .lo)) P (over-some above) (fit .d-low) (strong .most) far (kept (v .lo) .less) (fit .weak) (x .below) in
         let near = x .near in

@@ -39,8 +39,8 @@ cubes x above = x .above
 -- ── A power with a cap ──────────────────────────────────────────────────────────────────────
 
 -- What is below b^(p/q), with b at most top, p/q at most 1/j and top at most m^j, is at most m.
-pub capped : (t b p q j m top : ℕ) → 1 ≤ b → b ≤ top → 0 < q → 0 < j → p * j ≤ q → top ≤ m ^ j → BoundsPower below t unit b 1 p q → t ≤ unit * m
-capped t b p q j m top from to qpos jpos small big h =
+pub capped-root : (t b p q j m top : ℕ) → 1 ≤ b → b ≤ top → 0 < q → 0 < j → p * j ≤ q → top ≤ m ^ j → BoundsPower below t unit b 1 p q → t ≤ unit * m
+capped-root t b p q j m top from to qpos jpos small big h =
     let less : p // q ≼ 1 // j = over-≼ p 1 qpos jpos (omega arith) in
     let one : 1 // 1 ≼ b // 1 = omega arith in
     let up : b // 1 ≼ top // 1 = omega arith in

@@ -19,7 +19,7 @@ use Rattle.power.proofs.Laws.{in-words, rescaled, power-law}
 use Rattle.ship.specs.Accepted.{Within}
 use Rattle.speed.specs.Speeds.{pair, averageOf, lessMarginOf}
 use Rattle.speed.proofs.Rows.{Fit, row-fits, root-at, most, sized-within}
-use Rattle.speed.proofs.Sides.{at, capped}
+use Rattle.speed.proofs.Sides.{at, capped-root}
 
 -- ── V_avg ───────────────────────────────────────────────────────────────────────────────────
 
@@ -48,7 +48,7 @@ module _ (kind : Kind) (dwt : Deadweight) (w : Within 100 600000 (dwt .tonnes)) 
   below-most : powerOf (sized 80000 kind dwt) 1 (row kind .C) 100000 .lo ≤ unit * most kind
   below-most =
       let z = sized-within 80000 kind dwt (lit≤ tt) w in
-      capped _ (sized 80000 kind dwt) (row kind .C) 100000 (root-at kind) (most kind) 600000 (omega (arith, z .least)) (z .most) (lit< tt) (fit .j-low) (fit .c-root) (fit .top) (law .encloses-below)
+      capped-root _ (sized 80000 kind dwt) (row kind .C) 100000 (root-at kind) (most kind) 600000 (omega (arith, z .least)) (z .most) (lit< tt) (fit .j-low) (fit .c-root) (fit .top) (law .encloses-below)
 
   -- A x^C in 10^-5 of a unit.
   pub low-fits : row kind .A * powerOf (sized 80000 kind dwt) 1 (row kind .C) 100000 .lo ≤ unit * 901000

@@ -84,6 +84,21 @@ trialOf v kW P = speedFrom (undivided (exactly (v * 10000000))) P (kW * 100)
 unfoldable pub kRootOf : ℕ → Bounds
 kRootOf n = let y = powerOf 100 n 1 3 in pair (1073741824000000000 / y .hi) (ceilOf 1073741824000000000 (y .lo))
 
+-- Two close ends of a factor just below 1, in 10^-9.
+pub record Factor (g : Bounds) : Type 0 where
+  pub near : g .hi * 2 ^ 27 ≤ (g .lo + 2) * (2 ^ 27 + 1)
+  pub low : 890000000 ≤ g .lo
+  pub order : g .lo ≤ g .hi
+  pub high : g .hi ≤ 1000000000
+
+-- a and b differ by a factor of at most 5.
+pub record Fives (a b : ℕ) : Type 0 where
+  pub a-low : 1 ≤ a
+  pub b-low : 1 ≤ b
+  pub a-high : a < 2 ^ 32
+  pub b-high : b < 2 ^ 32
+  pub near : Near a b
+
 -- v in 1/100 knot times g in 10^-9, as 10^-9 knot.
 abbrev pub timesOf : ℕ → Bounds → Bounds
 timesOf v g = pair (v * g .lo / 100) (ceilOf (v * g .hi) 100)

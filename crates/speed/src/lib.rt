@@ -10,7 +10,7 @@ ghost use Rattle.number.specs.Division.{ceilOf};
 ghost use Rattle.number.specs.Ratio.{Moderate};
 ghost use Rattle.ship.specs.Accepted.{Within, Near, hundredths};
 ghost use Rattle.ship.specs.Figures.{kind-of, deadweight-of};
-ghost use Rattle.speed.specs.Speeds.{Parted, RowOf, speedFrom, averageOf, lessMarginOf, statisticalOf};
+ghost use Rattle.speed.specs.Speeds.{Parted, Factor, Fives, RowOf, speedFrom, averageOf, lessMarginOf, statisticalOf, trialOf, kRootOf, timesOf, upOf, downOf, partsOf, designOf, one-method, Admitted, speedOf};
 
 // A row of method 4's table.
 pub struct Row {
@@ -162,4 +162,124 @@ fn statistical(kind: u64, deadweight: Deadweight, power: u64) -> Bounds
     let e = size(kind, deadweight, 95000);
     let over = power::power(e, 1, row.f, 300000);
     speed_from(Split { base, over }, power * 400, 3 * row.d)
+}
+
+// Method 2: v in 1/100 knot at a trial of so many kW.
+fn trial(v: u64, kw: u64, power: u64) -> Bounds
+    requires { ⌜ Within 500 6000 v × Within 1 600000 kw × Near (100 * kw) power × (power ≤ 36000000) ⌝ }
+    ensures { λ r. ⌜ r ≡ trialOf v kw power ⌝ }
+{
+    let w = v * 10000000;
+    let base = Bounds { lo: w, hi: w };
+    let over = Bounds {
+        lo: 1073741824,
+        hi: 1073741824,
+    };
+    speed_from(Split { base, over }, power, kw * 100)
+}
+
+// k of method 3, in hundredths.
+fn k_of(kind: u64, deadweight: Deadweight) -> u64
+    requires { ⌜ Within 1 7 kind ⌝ }
+    ensures { λ r. ⌜ r ≡ k (kind-of kind) (deadweight-of deadweight) ⌝ }
+{
+    let t = deadweight.tonnes;
+    match kind {
+        1 => if t <= 200000 { 97 } else { 100 },
+        3 => if t <= 100000 { 97 } else { 100 },
+        4 => if t <= 120000 { 95 } else { 93 },
+        _ => 100,
+    }
+}
+
+// The cube root of n / 100, in 10^-9: the power is taken of the inverse, which is at least 1.
+fn root_of_k(n: u64) -> Bounds
+    requires { ⌜ Within 90 100 n ⌝ }
+    ensures { λ r. ⌜ r ≡ kRootOf n ⌝ }
+{
+    let y = power::power(100, n, 1, 3);
+    let one: u64 = 1073741824000000000;
+    let lo = one / y.hi;
+    let hi = (one + (y.lo - 1)) / y.lo;
+    Bounds { lo, hi }
+}
+
+// v in 1/100 knot times g in 10^-9, as 10^-9 knot.
+fn times(v: u64, g: Bounds) -> Bounds
+    requires { ⌜ (v ≤ 6000) × (g .lo ≤ 2 ^ 32) × (g .hi ≤ 2 ^ 32) ⌝ }
+    ensures { λ r. ⌜ r ≡ timesOf v g ⌝ }
+{
+    let lo = v * g.lo / 100;
+    let hi = (v * g.hi + 99) / 100;
+    Bounds { lo, hi }
+}
+
+// v g (a/b)^(2/9), where a is at least b.
+fn loaded_up(v: u64, g: Bounds, a: u64, b: u64) -> Split
+    requires { ⌜ Within 500 6000 v × Factor g × Fives a b × (b ≤ a) ⌝ }
+    ensures { λ r. ⌜ r ≡ upOf v g a b ⌝ }
+{
+    let x = power::power(a, b, 2, 9);
+    let f = Bounds {
+        lo: g.lo * x.lo / 1073741824,
+        hi: (g.hi * x.hi + 1073741823) / 1073741824,
+    };
+    let base = times(v, f);
+    let over = Bounds {
+        lo: 1073741824,
+        hi: 1073741824,
+    };
+    Split { base, over }
+}
+
+// And where it is less: over (b/a)^(2/9).
+fn loaded_down(v: u64, g: Bounds, a: u64, b: u64) -> Split
+    requires { ⌜ Within 500 6000 v × Factor g × Fives a b × (a ≤ b) ⌝ }
+    ensures { λ r. ⌜ r ≡ downOf v g a b ⌝ }
+{
+    let over = power::power(b, a, 2, 9);
+    let base = times(v, g);
+    Split { base, over }
+}
+
+fn loaded(v: u64, g: Bounds, a: u64, b: u64) -> Split
+    requires { ⌜ Within 500 6000 v × Factor g × Fives a b ⌝ }
+    ensures { λ r. ⌜ r ≡ partsOf v g a b ⌝ }
+{
+    if b <= a {
+        loaded_up(v, g, a, b)
+    } else {
+        loaded_down(v, g, a, b)
+    }
+}
+
+// Method 3, with the trial's deadweight.
+fn design(v: u64, trial: Trial, kind: u64, deadweight: Deadweight, power: u64) -> Bounds
+    requires { ⌜ Within 1 7 kind × Within 500 6000 v × Within 1 600000 (trial .power) × Near (100 * trial .power) power ⌝ }
+    requires { ⌜ (power ≤ 36000000) × Within 100 600000 (deadweight .tonnes) × Near (100 * trial .deadweight .tonnes) (hundredths (kind-of kind) (deadweight-of deadweight)) ⌝ }
+    ensures { λ r. ⌜ r ≡ designOf v (trial .power) (deadweight-of (trial .deadweight)) (kind-of kind) (deadweight-of deadweight) power ⌝ }
+{
+    let g = root_of_k(k_of(kind, deadweight));
+    let capacity = ship::power::capacity_of(kind, deadweight);
+    let parts = loaded(v, g, trial.deadweight.tonnes * 100, capacity);
+    speed_from(parts, power, trial.power * 100)
+}
+
+// V_ref of a record with the speed v, in 1/100 knot, and the sum of P_ME, in 1/100 kW.
+pub fn speed(p: Particulars, v: u64, power: u64) -> Bounds
+    requires { ⌜ Within 1 7 (p .kind) × Within 1 4 (p .method) × Admitted (one-method (p .method) v (p .trial)) (kind-of (p .kind)) (deadweight-of (p .deadweight)) power ⌝ }
+    ensures { λ r. ⌜ r ≡ speedOf (one-method (p .method) v (p .trial)) (kind-of (p .kind)) (deadweight-of (p .deadweight)) power ⌝ }
+{
+    let method = p.method;
+    let deadweight = p.deadweight;
+    let trial_run = p.trial;
+    match method {
+        1 => Bounds {
+            lo: v * 10000,
+            hi: v * 10000,
+        },
+        2 => trial(v, trial_run.power, power),
+        3 => design(v, trial_run, p.kind, deadweight, power),
+        _ => statistical(p.kind, deadweight, power),
+    }
 }

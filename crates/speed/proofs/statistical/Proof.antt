@@ -66,9 +66,10 @@ speed-from-requires c κs =
       at .before .size .ensures,
       row .row-of .ensures .f-is,
       row .row-of .ensures .d-is,
+    ) (
+      statistical-parted (kind-of (s .args .kind)) (deadweight-of (s .args .deadweight)) (s .args .power) (s .pre .1) (s .pre .2),
+      statistical-moderate (kind-of (s .args .kind)) (deadweight-of (s .args .deadweight)) (s .args .power) (s .pre .1) (s .pre .2),
     )
-    (statistical-parted (kind-of (s .args .kind)) (deadweight-of (s .args .deadweight)) (s .args .power) (s .pre .1) (s .pre .2),
-     statistical-moderate (kind-of (s .args .kind)) (deadweight-of (s .args .deadweight)) (s .args .power) (s .pre .1) (s .pre .2))
 
 returns : tie.Need-returns
 unfolding statisticalOf

@@ -1,0 +1,30 @@
+-- The law of the speed by name, for every method: what its users may know of it. Assumes nothing.
+use Prim.Native.Nat.{ℕ, _+_, _*_, _≤_}
+use native.Mathlib.Omega.{arith}
+use Rattle.exact.specs.Formula.{_//_, below, above, lit, by-lit}
+use Rattle.exact.specs.Ship.{Deadweight, Kind, Method, declared, trial, design-trial, statistical}
+use Rattle.exact.specs.Index.{V-ref}
+use Rattle.exact.proofs.Fractions.{_≈_, lies-≈}
+use Rattle.ship.specs.Accepted.{Within}
+use Rattle.speed.specs.Speeds.{exactly, Admitted, speedOf, Speed}
+use Rattle.speed.proofs.MethodFour.{statistical-speed}
+use Rattle.speed.proofs.Trials.{trial-speed}
+use Rattle.speed.proofs.Designs.{design-speed}
+
+declared-speed : {v : ℕ} → Within 500 6000 v → Speed (lit (v // 100)) (exactly (v * 10000))
+declared-speed {v} w =
+    let same : (v * 10000) // 1000000 ≈ v // 100 = omega arith in
+    record {
+      encloses = record { low = by-lit (lies-≈ below same); high = by-lit (lies-≈ above same) };
+      near = omega arith;
+      slow = omega (arith, w .least);
+      fast = omega (arith, w .most);
+    }
+
+pub speed-law : (m : Method ℕ) (kind : Kind) (dwt : Deadweight) (P : ℕ) → Admitted m kind dwt P → Speed (V-ref m kind dwt (lit (P // 100))) (speedOf m kind dwt P)
+unfolding V-ref speedOf
+speed-law (declared v) kind dwt P a = declared-speed (a .method)
+speed-law (trial v kW) kind dwt P a = trial-speed kind dwt (a .method .0) (a .method .1 .least) (a .power .most) (a .method .2)
+speed-law (design-trial v kW tested) kind dwt P a =
+    design-speed tested kind dwt (a .method .0) (a .method .1 .least) (a .power .most) (a .method .2) (a .deadweight) (a .method .3)
+speed-law statistical kind dwt P a = statistical-speed kind dwt P (a .deadweight) (a .power)

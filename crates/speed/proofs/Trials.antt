@@ -1,0 +1,94 @@
+-- Methods 2 and 3 from their parts. Assumes nothing.
+use mathlib.Core.Path.{_≡_, refl}
+use mathlib.Core.Bool.{Bool, true, false}
+use Prim.Native.Nat.{ℕ, _+_, _*_, _/_, _^_, _≤_, _<_}
+use native.Mathlib.Nat.{le-trans, le-refl, mul-pos, mul-le-mul, mul-le-mul-left, mul-le-mul-right, le-of-mul-le-mul-right, suc-pred-eq-of-pos}
+use native.Mathlib.Omega.{arith}
+use lib.Dec.{leb, lit<, lit≤}
+use borrow.Author.Tests.{leb-true, leb-false}
+use Rattle.exact.specs.Formula.{Frac, _//_, _≼_, _·_, _↥_, Side, below, above, other, lies, at-most, at-least, Formula, lit, _⊗_, _⊘_, _↑_, bounds, by-lit, by-product, by-quotient, by-power, Enclosed}
+use Rattle.exact.specs.Ship.{Deadweight, Kind, trial, design-trial}
+use Rattle.exact.specs.Index.{whole, percent, if, Capacity, V-ref}
+use Rattle.exact.specs.Index as rules
+use Rattle.exact.proofs.Fractions.{_≈_, ≈-sym, lies-refl, lies-≈}
+use Rattle.number.specs.Division.{Floor, Ceil, ceilOf}
+use Rattle.number.specs.Ratio.{Moderate}
+use Rattle.number.proofs.Divisions.{floor-is, ceil-is, floor-greatest, ceil-least, floor-ceil}
+use Rattle.power.specs.declared.Bounds.{Bounds}
+use Rattle.power.specs.Numbers.{unit}
+use Rattle.power.specs.Power.{BoundsPower, Raisable, powerOf, Power}
+use Rattle.power.proofs.Laws.{in-words, rescaled, inverted, capped, power-law}
+use Rattle.ship.specs.Accepted.{Within, Near, hundredths}
+use Rattle.plant.proofs.Values.{capacity-exact}
+use Rattle.speed.specs.declared.Split.{Split}
+use Rattle.speed.specs.Speeds.{pair, exactly, undivided, timesOf, Parted, speedFrom, trialOf, kRootOf, upOf, downOf, partsOf, designOf, Speed}
+use Rattle.speed.proofs.Products.{Product, product-is, chain}
+use Rattle.speed.proofs.Sides.{at, shape, Cubes, cubes}
+
+-- ── A measured speed ────────────────────────────────────────────────────────────────────────
+
+root-side : (s : Side) (t w b kW P : ℕ) → 0 < b * 2 ^ 30 → Cubes s t w b P (kW * 100) → lies s (((t * 1000 * w) // (b * 2 ^ 30)) ↥ 3 · kW // 1) (P // 100)
+root-side below t w b kW P pos h = let c : ((t * 1000 * w) // (b * 2 ^ 30)) ↥ 3 · kW // 1 ≼ P // 100 = record { cross = rw (suc-pred-eq-of-pos pos) (omega arith) } in at-most c
+root-side above t w b kW P pos h = let c : P // 100 ≼ ((t * 1000 * w) // (b * 2 ^ 30)) ↥ 3 · kW // 1 = record { cross = rw (suc-pred-eq-of-pos pos) (omega arith) } in at-least c
+
+out : (t w b : ℕ) → 0 < b * 2 ^ 30 → 0 < w * 1000000000 → t // 1000000 ≈ (b * 2 ^ 30) // (w * 1000000000) · (t * 1000 * w) // (b * 2 ^ 30)
+out t w b pos pos' = record { cross = rw (suc-pred-eq-of-pos pos, suc-pred-eq-of-pos pos') (omega arith) }
+
+-- What methods 2 and 3 have in common: a base from 4.45 to 120 knots, hardly divided, and a power ratio from 1/5 to 5.
+module _ {p : Split} {kW P : ℕ} {r : Bounds} (parted : Parted p) (x : Product p P (kW * 100) r) (pos : 1 ≤ kW) (near : Near (100 * kW) P)
+    (fast : 4450000000 ≤ p .base .hi) (slow : p .base .lo ≤ 120000000000) (thin : p .over .lo ≤ 2 ^ 31) where
+  base-some : (s : Side) → 0 < at s (p .base) * 2 ^ 30
+  base-some below = omega (arith, parted .low)
+  base-some above = omega arith
+
+  over-some : (s : Side) → 0 < at s (p .over) * 1000000000
+  over-some below = omega (arith, parted .over-low)
+  over-some above = omega (arith, parted .over-low, parted .over-order)
+
+  measured-side : {B : Formula} → ((s : Side) → bounds s B ((at s (p .base) * 2 ^ 30) // (at (other s) (p .over) * 1000000000))) → (s : Side) → bounds s (B ⊗ (lit (P // 100) ⊘ whole kW) ↑ (1 // 3)) (at s r // 1000000)
+  measured-side b s =
+      shape ((at s r * 1000 * at (other s) (p .over)) // (at s (p .base) * 2 ^ 30)) (b s) (by-lit (lies-refl (other s) _)) pos
+      (root-side s (at s r) (at (other s) (p .over)) (at s (p .base)) kW P (base-some s) (cubes x s))
+      (lies-≈ s (out (at s r) (at (other s) (p .over)) (at s (p .base)) (base-some s) (over-some (other s))))
+
+  pub measured : {B : Formula} → ((s : Side) → bounds s B ((at s (p .base) * 2 ^ 30) // (at (other s) (p .over) * 1000000000))) → Speed (B ⊗ (lit (P // 100) ⊘ whole kW) ↑ (1 // 3)) r
+  measured b =
+      let n = x .near in
+      let l : 1112500 ≤ r .hi = omega (arith, x .half, mul-le-mul-left (r .hi) thin) in
+      let h : r .lo ≤ 240000000 = omega (arith, x .twice (omega (arith, near .second)), mul-le-mul-left (r .lo) (le-trans (parted .over-low) (parted .over-order))) in
+      record {
+        encloses = record { low = measured-side b below; high = measured-side b above };
+        near = n;
+        slow = omega arith;
+        fast = omega arith;
+      }
+
+pub trial-moderate : {kW P : ℕ} → 1 ≤ kW → P ≤ 36000000 → Near (100 * kW) P → Moderate P (kW * 100)
+trial-moderate pos top near = record { some = omega arith; eighth = omega (arith, near .first); small = omega arith }
+
+-- ── Method 2 ────────────────────────────────────────────────────────────────────────────────
+
+pub trial-parted : {v : ℕ} → Within 500 6000 v → Parted (undivided (exactly (v * 10000000)))
+trial-parted w =
+    record {
+      low = omega (arith, w .least);
+      order = le-refl _;
+      high = omega (arith, w .most);
+      near = omega arith;
+      over-low = le-refl _;
+      over-order = le-refl _;
+      over-high = lit≤ tt;
+      over-near = lit≤ tt;
+    }
+
+pub trial-speed : {v kW P : ℕ} (kind : Kind) (dwt : Deadweight) → Within 500 6000 v → 1 ≤ kW → P ≤ 36000000 → Near (100 * kW) P → Speed (V-ref (trial v kW) kind dwt (lit (P // 100))) (trialOf v kW P)
+unfolding V-ref trialOf
+trial-speed {v} kind dwt w pos top near =
+    measured (trial-parted w) (product-is (trial-parted w) (trial-moderate pos top near)) pos near (omega (arith, w .least)) (omega (arith, w .most)) (lit≤ tt) base
+  where
+    same : v // 100 ≈ (v * 10000000 * 2 ^ 30) // (2 ^ 30 * 1000000000)
+    same = omega arith
+
+    base : (s : Side) → bounds s (lit (v // 100)) ((at s (exactly (v * 10000000)) * 2 ^ 30) // (at (other s) (exactly (2 ^ 30)) * 1000000000))
+    base below = by-lit (lies-≈ below (≈-sym same))
+    base above = by-lit (lies-≈ above (≈-sym same))
