@@ -1,0 +1,158 @@
+-- The laws of f_c by name: what its users may know of it.
+-- Assumes nothing.
+use Prim.Native.Nat.{ℕ, _+_, _*_, _^_, _≤_, _<_}
+use mathlib.Core.Path.{_≡_, refl, sym, ap, _∙_}
+use mathlib.Core.Bool.{Bool, true, false}
+use mathlib.Core.Logic.{_↔_}
+use native.Mathlib.Nat.{suc-pred-eq-of-pos}
+use native.Mathlib.Omega.{arith}
+use borrow.Author.Tests.{ltb-true, ltb-false, lt-ltb, le-ltb}
+use lib.Dec.{ltb, lit≤, lit<}
+use Rattle.exact.specs.Formula.{Frac, _//_, _≼_, _·_, Side, other, Formula, lit, _⊘_, _↑_, bounds, by-lit, by-quotient, Enclosed}
+use Rattle.exact.specs.Ship.{Deadweight, GrossTonnage, Kind, bulk, gas, tanker, container, refrigerated, combination, vehicle, Particulars, Figures}
+use Rattle.exact.specs.Index.{whole, percent, if, light-cargo, light-vehicles, f-c}
+use Rattle.exact.specs.Ranges.{Range}
+use Rattle.exact.proofs.Fractions.{_≈_, lies-refl, lies-≈}
+use Rattle.exact.proofs.Formulas.{enclosed-≈, enclosed-lit}
+use Rattle.exact.proofs.Powers.{inverse}
+use Rattle.exact.proofs.Rules.{light-cargo-none, light-cargo-some, light-vehicles-none, light-vehicles-some}
+use Rattle.ship.specs.Figures.{kind-of}
+use Rattle.ship.specs.Accepted.{Within, Accepted}
+use Rattle.ship.proofs.Figured.{of-seven}
+use Rattle.power.specs.declared.Bounds.{Bounds}
+use Rattle.power.specs.Numbers.{unit}
+use Rattle.power.specs.Power.{Raisable, powerOf}
+use Rattle.factor.specs.Factor.{one, cargoOf, vehiclesOf, factorOf, Factored}
+use Rattle.factor.proofs.Inverses.{turned, above-one}
+
+-- What a pair is to its formula: it encloses it, and is exactly 1 where the rule says 1, and nowhere else.
+pub record Follows (e : Formula) (r : Bounds) : Type 0 where
+  pub factored : Factored e r
+  pub one-where : e ≡ whole 1 → r ≡ one
+  pub only-where : r ≡ one → e ≡ whole 1
+
+exactly : Follows (whole 1) one
+exactly =
+    record {
+      factored = record { encloses = enclosed-≈ (enclosed-lit (1 // 1)) (omega arith); near = lit≤ tt; low = lit≤ tt; order = lit≤ tt; high = lit≤ tt };
+      one-where = λ h. refl;
+      only-where = λ h. refl;
+    }
+
+-- A quotient is no literal, and the power of more than 1 isn't 1.
+power-follows : {T : Formula} {a b p q : ℕ} → Raisable a b p q → 0 < p → b < a → Factored (whole 1 ⊘ T ↑ (p // q)) (powerOf a b p q)
+    → Follows (whole 1 ⊘ T ↑ (p // q)) (powerOf a b p q)
+power-follows given some more w =
+    record {
+      factored = w;
+      one-where = λ h. absurd (let z : _≡_ {A = ℕ} 0 1 = cc in omega arith);
+      only-where = λ h. absurd (above-one given some more (omega (arith, ap (λ (r : Bounds). r .hi) h)));
+    }
+
+-- ── Bulk carriers ───────────────────────────────────────────────────────────────────────────
+
+module _ (dwt : Deadweight) (volume : ℕ) (d : Within 100 600000 (dwt .tonnes)) (v : Within 100 1000000 volume) where
+  pub cargo-raisable : dwt .tonnes * 100 < 55 * volume → Raisable volume (dwt .tonnes) 15 100
+  cargo-raisable h =
+      record {
+        some = omega (arith, d .least);
+        from-one = omega arith;
+        moderate = omega (arith, d .least, v .most);
+        small = omega (arith, v .most);
+        part = lit< tt;
+        fine = lit< tt;
+      }
+
+  cargo-part : (p : 0 < volume) (s : Side) → bounds s (lit (dwt .tonnes // volume)) (inverse (volume // dwt .tonnes) p)
+  cargo-part p s =
+      let n : 0 < dwt .tonnes = omega (arith, d .least) in
+      let same : inverse (volume // dwt .tonnes) p ≈ dwt .tonnes // volume = record { cross = rw (suc-pred-eq-of-pos n, suc-pred-eq-of-pos p) } in
+      by-lit (lies-≈ s same)
+
+  cargo-follows : Follows (light-cargo dwt volume) (cargoOf dwt volume)
+  unfolding cargoOf
+  cargo-follows = go (ltb (dwt .tonnes * 100) (55 * volume)) refl
+    where
+      go : (t : Bool) → ltb (dwt .tonnes * 100) (55 * volume) ≡ t → Follows (light-cargo dwt volume) (if t (powerOf volume (dwt .tonnes) 15 100) one)
+      go true e =
+          let h = ltb-true _ _ e in
+          let r = cargo-raisable h in
+          let p : 0 < volume = omega (arith, v .least) in
+          rw (light-cargo-some dwt volume (omega (arith, v .least)) h)
+          (power-follows r (lit< tt) (omega arith) (turned r 10000 4 p (cargo-part p) (omega (arith, d .least, v .most)) (lit≤ tt) (lit≤ tt)))
+      go false e = rw (light-cargo-none dwt volume (omega (arith, v .least)) (ltb-false _ _ e)) exactly
+
+-- ── Vehicle carriers ────────────────────────────────────────────────────────────────────────
+
+module _ (dwt : Deadweight) (gross : GrossTonnage) (d : Within 100 600000 (dwt .tonnes)) (g : Within 100 400000 (gross .gt)) where
+  pub vehicles-raisable : dwt .tonnes * 100 < 35 * gross .gt → Raisable (35 * gross .gt) (100 * dwt .tonnes) 8 10
+  vehicles-raisable h =
+      record {
+        some = omega (arith, d .least);
+        from-one = omega arith;
+        moderate = omega (arith, d .least, g .most);
+        small = omega (arith, g .most);
+        part = lit< tt;
+        fine = lit< tt;
+      }
+
+  vehicles-part : (p : 0 < 35 * gross .gt) (s : Side) → bounds s (lit (dwt .tonnes // gross .gt) ⊘ percent 35) (inverse ((35 * gross .gt) // (100 * dwt .tonnes)) p)
+  vehicles-part p s =
+      let n : 0 < 100 * dwt .tonnes = omega (arith, d .least) in
+      let m : 0 < gross .gt = omega (arith, g .least) in
+      let same : inverse ((35 * gross .gt) // (100 * dwt .tonnes)) p · 35 // 100 ≈ dwt .tonnes // gross .gt = record { cross = rw (suc-pred-eq-of-pos n, suc-pred-eq-of-pos m) (omega arith) } in
+      by-quotient (by-lit (lies-refl s _)) (by-lit (lies-refl (other s) (35 // 100))) (lit< tt) (lies-≈ s same)
+
+  vehicles-follows : Follows (light-vehicles dwt gross) (vehiclesOf dwt gross)
+  unfolding vehiclesOf
+  vehicles-follows = go (ltb (dwt .tonnes * 100) (35 * gross .gt)) refl
+    where
+      go : (t : Bool) → ltb (dwt .tonnes * 100) (35 * gross .gt) ≡ t → Follows (light-vehicles dwt gross) (if t (powerOf (35 * gross .gt) (100 * dwt .tonnes) 8 10) one)
+      go true e =
+          let h = ltb-true _ _ e in
+          let r = vehicles-raisable h in
+          let p : 0 < 35 * gross .gt = omega (arith, g .least) in
+          rw (light-vehicles-some dwt gross (omega (arith, g .least)) h)
+          (power-follows r (lit< tt) (omega arith) (turned r 1400 330 p (vehicles-part p) (omega (arith, d .least, g .most)) (lit≤ tt) (lit≤ tt)))
+      go false e = rw (light-vehicles-none dwt gross (omega (arith, g .least)) (ltb-false _ _ e)) exactly
+
+-- ── Every type ──────────────────────────────────────────────────────────────────────────────
+
+by-kind : (k : Kind) (s : Particulars) → Within 100 600000 (s .deadweight .tonnes) → (k ≡ vehicle → Within 100 400000 (s .gross .gt)) → (k ≡ bulk → Within 100 1000000 (s .volume))
+    → Follows (f-c k s) (factorOf k s)
+unfolding f-c factorOf
+by-kind bulk s d g v = cargo-follows (s .deadweight) (s .volume) d (v refl)
+by-kind vehicle s d g v = vehicles-follows (s .deadweight) (s .gross) d (g refl)
+by-kind gas s d g v = exactly
+by-kind tanker s d g v = exactly
+by-kind container s d g v = exactly
+by-kind refrigerated s d g v = exactly
+by-kind combination s d g v = exactly
+
+pub factor-law : {f : Figures Range} → Accepted f → Follows (f-c (f .ship .kind) (f .ship)) (factorOf (f .ship .kind) (f .ship))
+factor-law {f} a = by-kind (f .ship .kind) (f .ship) (a .deadweight) (a .gross) (a .volume)
+
+-- ── Types by number ─────────────────────────────────────────────────────────────────────────
+
+module _ (s : Particulars) (k : ℕ) where
+  pub of-bulk : k ≡ 1 → cargoOf (s .deadweight) (s .volume) ≡ factorOf (kind-of k) s
+  unfolding factorOf
+  of-bulk e = rw e
+
+  pub of-vehicle : k ≡ 7 → vehiclesOf (s .deadweight) (s .gross) ≡ factorOf (kind-of k) s
+  unfolding factorOf
+  of-vehicle e = rw e
+
+  pub of-others : Within 1 7 k → (k ≡ 1 → ⊥) → (k ≡ 7 → ⊥) → one ≡ factorOf (kind-of k) s
+  unfolding factorOf
+  of-others =
+      of-seven
+      (λ k. (k ≡ 1 → ⊥) → (k ≡ 7 → ⊥) → one ≡ factorOf (kind-of k) s)
+      (λ a b. absurd (a refl))
+      (λ a b. refl)
+      (λ a b. refl)
+      (λ a b. refl)
+      (λ a b. refl)
+      (λ a b. refl)
+      (λ a b. absurd (b refl))
+      k

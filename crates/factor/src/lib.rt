@@ -1,0 +1,63 @@
+// f_c, the capacity factor of light cargoes, enclosed between two whole numbers of units of 2^-30.
+use power::Bounds;
+use ship::Deadweight;
+use ship::GrossTonnage;
+use ship::Ship;
+ghost use mathlib.Core.Path.{_≡_};
+ghost use Rattle.ship.specs.Figures.{deadweight-of, figures};
+ghost use Rattle.ship.specs.Accepted.{Within};
+ghost use Rattle.ship.specs.Rules.{refusal-of};
+ghost use Rattle.ship.specs.declared.Refusal.the-variants as refusal;
+ghost use Rattle.factor.specs.Factor.{one, cargoOf, vehiclesOf, factorOf};
+
+fn exactly_one() -> Bounds
+    ensures { λ r. ⌜ r ≡ one ⌝ }
+{
+    Bounds {
+        lo: 1073741824,
+        hi: 1073741824,
+    }
+}
+
+// A bulk carrier's: R to the power -0.15, where R = deadweight / volume is below 0.55.
+pub fn light_cargo(deadweight: Deadweight, volume: u64) -> Bounds
+    requires { ⌜ Within 100 600000 (deadweight .tonnes) × Within 100 1000000 volume ⌝ }
+    ensures { λ r. ⌜ r ≡ cargoOf (deadweight-of deadweight) volume ⌝ }
+{
+    let t = deadweight.tonnes;
+    if t * 100 < 55 * volume {
+        power::power(volume, t, 15, 100)
+    } else {
+        exactly_one()
+    }
+}
+
+// A vehicle carrier's: (R / 0.35) to the power -0.8, where R = deadweight / gross tonnage is below 0.35.
+pub fn light_vehicles(deadweight: Deadweight, gross: GrossTonnage) -> Bounds
+    requires { ⌜ Within 100 600000 (deadweight .tonnes) × Within 100 400000 (gross .gt) ⌝ }
+    ensures { λ r. ⌜ r ≡ vehiclesOf (deadweight-of deadweight) (record { gt = gross .gt }) ⌝ }
+{
+    let t = deadweight.tonnes;
+    let g = gross.gt;
+    if t * 100 < 35 * g {
+        power::power(35 * g, 100 * t, 8, 10)
+    } else {
+        exactly_one()
+    }
+}
+
+// f_c of a record.
+pub fn factor(s: Ship) -> Bounds
+    requires { ⌜ refusal-of s ≡ refusal.None ⌝ }
+    ensures { λ r. ⌜ r ≡ factorOf (figures s .ship .kind) (figures s .ship) ⌝ }
+{
+    let p = s.particulars;
+    let kind = p.kind;
+    let deadweight = p.deadweight;
+    let gross = p.gross;
+    match kind {
+        1 => light_cargo(deadweight, p.volume),
+        7 => light_vehicles(deadweight, gross),
+        _ => exactly_one(),
+    }
+}
