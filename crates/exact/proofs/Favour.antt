@@ -92,31 +92,39 @@ module _ {M : Type 0} {R : Range → M → Type 0} {R' : ℕ → M → Type 0} (
   speeds-end method-4 = method-4
 
 -- An end of a range that is one number is that number.
-abbrev Single-end : (Range → ℕ) → Type 0
+abbrev pub Single-end : (Range → ℕ) → Type 0
 Single-end p = (r : Range) (n : ℕ) → within r n → r .low ≡ r .high → p r ≡ n
 
-low-single : Single-end low
+pub low-single : Single-end low
 low-single r n h e = omega arith
 
-high-single : Single-end high
+pub high-single : Single-end high
 high-single r n h e = omega arith
 
--- The speed at an end against the speed of a ship inside: in the order that declared speeds have, and the same formula by any other method.
+-- What depends on the method and the sum of P_ME alone, at an end against a ship inside: in the order that declared speeds have,
+-- and the same by any other method.
 module _ (p q : Range → ℕ) (single-p : Single-end p) (single-q : Single-end q) where
   powers-end : {es : List (Engine Range)} {es' : List (Engine ℕ)} → Engines within es es' → Single es → sum-P-ME (engines-at p es) ≡ sum-P-ME es'
   unfolding engines-at sum-P-ME Single
   powers-end no-more s = refl
   powers-end (one-more {limit = l} h c r) s = ap₂ (λ x y. P-ME x l + y) (single-p _ _ h (s .0)) (powers-end r (s .1))
 
-  speed-end : (E : Formula → Formula → Type 0) → ((e : Formula) → E e e) → ((r : Range) (n : ℕ) → within r n → E (lit (q r // 100)) (lit (n // 100)))
-      → (kind : Kind) (dwt : Deadweight) {m : Method Range} {m' : Method ℕ} {es : List (Engine Range)} {es' : List (Engine ℕ)}
-      → Speeds within m m' → Settled m es → Engines within es es'
-      → E (V-ref (method-at q m) kind dwt (lit (sum-P-ME (engines-at p es) // 100))) (V-ref m' kind dwt (lit (sum-P-ME es' // 100)))
-  unfolding method-at Settled V-ref
-  speed-end E same order kind dwt (method-1 h) s e = order _ _ h
-  speed-end E same order kind dwt (method-2 h) s e = rw (single-q _ _ h (s .0), powers-end e (s .1)) (same _)
-  speed-end E same order kind dwt (method-3 h) s e = rw (single-q _ _ h (s .0), powers-end e (s .1)) (same _)
-  speed-end E same order kind dwt method-4 s e = rw (powers-end e s) (same _)
+  pub method-end : {Y : Type 0} (F : Method ℕ → ℕ → Y) (E : Y → Y → Type 0) → ((y : Y) → E y y) → ((r : Range) (n P P' : ℕ) → within r n → E (F (declared (q r)) P) (F (declared n) P'))
+      → {m : Method Range} {m' : Method ℕ} {es : List (Engine Range)} {es' : List (Engine ℕ)} → Speeds within m m' → Settled m es → Engines within es es'
+      → E (F (method-at q m) (sum-P-ME (engines-at p es))) (F m' (sum-P-ME es'))
+  unfolding method-at Settled
+  method-end F E same order (method-1 h) s e = order _ _ _ _ h
+  method-end F E same order (method-2 h) s e = rw (single-q _ _ h (s .0), powers-end e (s .1)) (same _)
+  method-end F E same order (method-3 h) s e = rw (single-q _ _ h (s .0), powers-end e (s .1)) (same _)
+  method-end F E same order method-4 s e = rw (powers-end e s) (same _)
+
+-- The speed as a formula.
+abbrev speed-by : Kind → Deadweight → Method ℕ → ℕ → Formula
+speed-by kind dwt m P = V-ref m kind dwt (lit (P // 100))
+
+declared-order : (kind : Kind) (dwt : Deadweight) {v w : ℕ} (P P' : ℕ) → v ≤ w → speed-by kind dwt (declared v) P ⊑ speed-by kind dwt (declared w) P'
+unfolding V-ref
+declared-order kind dwt P P' h = ⊑-lit (over-mono 100 h)
 
 -- ── Demand 3 ────────────────────────────────────────────────────────────────────────────────
 
@@ -127,7 +135,7 @@ above-most (alike e c v) s =
     index-mono _ _ _
     (engines-end low (λ r n h. h .0) e)
     (uses-end low (λ r n h. h .0) c)
-    (speed-end low high low-single high-single (λ a b. b ⊑ a) ⊑-refl (λ r n h. ⊑-lit (over-mono 100 (h .1))) _ _ v s e)
+    (method-end low high low-single high-single (speed-by _ _) (λ a b. b ⊑ a) ⊑-refl (λ r n P P' h. declared-order _ _ P' P (h .1)) v s e)
 
 pub below-least : {r : Figures Range} {f : Figures ℕ} → Inside r f → Settled (r .method) (r .engines) → index f ⊑ index (least-favourable r)
 unfolding ship-at speed
@@ -135,7 +143,7 @@ below-least (alike e c v) s =
     index-mono _ _ _
     (turn-engines (engines-end high (λ r n h. h .1) e))
     (turn-uses (uses-end high (λ r n h. h .1) c))
-    (speed-end high low high-single low-single _⊑_ ⊑-refl (λ r n h. ⊑-lit (over-mono 100 (h .0))) _ _ v s e)
+    (method-end high low high-single low-single (speed-by _ _) _⊑_ ⊑-refl (λ r n P P' h. declared-order _ _ P P' (h .0)) v s e)
 
 -- So the outer bounds of those two enclose the exact index of each.
 pub inside-enclosed : {r : Figures Range} {f : Figures ℕ} {l h l' h' : Frac} → Inside r f → Settled (r .method) (r .engines)

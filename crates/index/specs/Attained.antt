@@ -1,0 +1,54 @@
+-- The bounds of one ship's index, by names that are kept shut: their laws (proofs/Laws.antt) are all that may be used of them.
+-- Assumes nothing.
+use mathlib.Core.Path.{_≡_}
+use Prim.Native.Nat.{ℕ, _+_, _*_, _/_, _^_, _≤_, _<_}
+use Rattle.exact.specs.Ship.{Figures}
+use Rattle.exact.specs.Index.{sum-P-ME}
+use Rattle.number.specs.Division.{ceilOf}
+use Rattle.power.specs.declared.Bounds.{Bounds}
+use Rattle.ship.specs.Accepted.{Within, hundredths}
+use Rattle.plant.specs.Plant.{N, ice-factor}
+use Rattle.factor.specs.Factor.{factorOf}
+use Rattle.speed.specs.Speeds.{speedOf}
+
+-- ── From emissions n in 10^-7 g/h, Capacity times f_m in 10^-4 t, a speed in 10^-6 knot and f_c in 2^-30 ──
+
+-- f_c in millionths, rounded down and up.
+abbrev pub millionths-down : ℕ → ℕ
+millionths-down c = c * 1000000 / 2 ^ 30
+
+abbrev pub millionths-up : ℕ → ℕ
+millionths-up c = ceilOf (c * 1000000) (2 ^ 30)
+
+-- n / (load v c) in millionths of a gram per tonne and mile, rounded down and up, once.
+unfoldable pub lowerOf : (n load v c : ℕ) → ℕ
+lowerOf n load v c = n * 10 ^ 15 / (load * v * millionths-up c)
+
+unfoldable pub upperOf : (n load v c : ℕ) → ℕ
+upperOf n load v c = ceilOf (n * 10 ^ 15) (load * v * millionths-down c)
+
+-- Sizes at which every step fits.
+pub record Sized (n load v c : ℕ) : Type 0 where
+  pub emitted : n ≤ 6000000000000000
+  pub loaded : Within 700000 6300000000 load
+  pub moving : Within 1000000 290000000 v
+  pub factored : Within (2 ^ 30) (331 * 2 ^ 30) c
+
+-- ── Of one ship ─────────────────────────────────────────────────────────────────────────────
+
+abbrev pub load : Figures ℕ → ℕ
+load f = hundredths (f .ship .kind) (f .ship .deadweight) * ice-factor (f .ship .ice)
+
+-- The speed in millionths of a knot, and f_c in 2^-30.
+unfoldable pub speed-of : Figures ℕ → Bounds
+speed-of f = speedOf (f .method) (f .ship .kind) (f .ship .deadweight) (sum-P-ME (f .engines))
+
+unfoldable pub factor-of : Figures ℕ → Bounds
+factor-of f = factorOf (f .ship .kind) (f .ship)
+
+-- The lower bound takes the upper speed and factor, and the upper bound the lower ones.
+unfoldable pub lower-of : Figures ℕ → ℕ
+lower-of f = lowerOf (N f) (load f) (speed-of f .hi) (factor-of f .hi)
+
+unfoldable pub upper-of : Figures ℕ → ℕ
+upper-of f = upperOf (N f) (load f) (speed-of f .lo) (factor-of f .lo)
