@@ -1,18 +1,16 @@
 -- One over a power of b/a, from the pair that encloses the power of a/b.
 -- Assumes nothing.
-use Prim.Native.Nat.{ℕ, _+_, _*_, _^_, _≤_, _<_}
-use mathlib.Core.Path.{_≡_, sym}
-use native.Mathlib.Nat.{zero-lt-suc, suc-pred-eq-of-pos, mul-one, one-mul}
+use Prim.Native.Nat.{ℕ, _*_, _^_, _≤_, _<_}
+use native.Mathlib.Nat.{zero-lt-suc, suc-pred-eq-of-pos}
 use native.Mathlib.Omega.{arith}
-use lib.Dec.{lit<}
-use Rattle.exact.specs.Formula.{Frac, _//_, _≼_, _·_, _↥_, Side, below, above, other, lies, at-most, at-least, lies-power, Formula, lit, _⊘_, _↑_, bounds, by-lit, by-quotient, by-power}
+use Rattle.exact.specs.Formula.{Frac, _//_, _≼_, _·_, _↥_, Side, below, above, other, lies, at-least, lies-power, Formula, _⊘_, _↑_, bounds, by-lit, by-quotient, by-power}
 use Rattle.exact.specs.Index.{whole}
 use Rattle.exact.proofs.Wholes.{one-pow}
-use Rattle.exact.proofs.Fractions.{_≈_, ≼-trans, ≈→≼, ↥-mono, ↥-cancel, lies-refl, lies-≈, over-≼}
+use Rattle.exact.proofs.Fractions.{_≈_, ≼-trans, ↥-mono, ↥-cancel, lies-refl, lies-≈, over-≼}
 use Rattle.exact.proofs.Formulas.{power-between}
-use Rattle.exact.proofs.Powers.{inverse, power-inverse, power-base, power-above}
+use Rattle.exact.proofs.Powers.{inverse, power-inverse, power-above}
 use Rattle.power.specs.Numbers.{unit}
-use Rattle.power.specs.Power.{BoundsPower, Raisable, powerOf, Power}
+use Rattle.power.specs.Power.{Raisable, powerOf}
 use Rattle.power.proofs.Laws.{in-words, power-law}
 use Rattle.factor.specs.Factor.{Factored}
 

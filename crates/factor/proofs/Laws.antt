@@ -1,14 +1,13 @@
 -- The laws of f_c by name: what its users may know of it.
 -- Assumes nothing.
-use Prim.Native.Nat.{ℕ, _+_, _*_, _^_, _≤_, _<_}
-use mathlib.Core.Path.{_≡_, refl, sym, ap, _∙_}
+use Prim.Native.Nat.{ℕ, _*_, _^_, _≤_, _<_}
+use mathlib.Core.Path.{_≡_, refl, ap}
 use mathlib.Core.Bool.{Bool, true, false}
-use mathlib.Core.Logic.{_↔_}
-use native.Mathlib.Nat.{suc-pred-eq-of-pos}
+use native.Mathlib.Nat.{le-trans, mul-le-mul-left, suc-pred-eq-of-pos}
 use native.Mathlib.Omega.{arith}
-use borrow.Author.Tests.{ltb-true, ltb-false, lt-ltb, le-ltb}
+use borrow.Author.Tests.{ltb-true, ltb-false}
 use lib.Dec.{ltb, lit≤, lit<}
-use Rattle.exact.specs.Formula.{Frac, _//_, _≼_, _·_, Side, other, Formula, lit, _⊘_, _↑_, bounds, by-lit, by-quotient, Enclosed}
+use Rattle.exact.specs.Formula.{_//_, _·_, Side, other, Formula, lit, _⊘_, _↑_, bounds, by-lit, by-quotient}
 use Rattle.exact.specs.Ship.{Deadweight, GrossTonnage, Kind, bulk, gas, tanker, container, refrigerated, combination, vehicle, Particulars, Figures}
 use Rattle.exact.specs.Index.{whole, percent, if, light-cargo, light-vehicles, f-c}
 use Rattle.exact.specs.Ranges.{Range}
@@ -20,7 +19,6 @@ use Rattle.ship.specs.Figures.{kind-of}
 use Rattle.ship.specs.Accepted.{Within, Accepted}
 use Rattle.ship.proofs.Figured.{of-seven}
 use Rattle.power.specs.declared.Bounds.{Bounds}
-use Rattle.power.specs.Numbers.{unit}
 use Rattle.power.specs.Power.{Raisable, powerOf}
 use Rattle.factor.specs.Factor.{one, cargoOf, vehiclesOf, factorOf, Factored}
 use Rattle.factor.proofs.Inverses.{turned, above-one}
@@ -49,20 +47,37 @@ power-follows given some more w =
       only-where = λ h. absurd (above-one given some more (omega (arith, ap (λ (r : Bounds). r .hi) h)));
     }
 
+-- A factor that is the power of a/b while n is below its limit, and 1 from there on. Where a/b is at most m, the power is at most c.
+module _ {F T : Formula} (n limit a b p q m c : ℕ) (some : 1 ≤ b) (small : a < 2 ^ 32) (most : a ≤ b * m) (moderate : m ≤ 2 ^ 20)
+    (exponent : (0 < p) × (p < q) × (q < 2 ^ 24)) (cap : m ^ p * 1 ^ q ≤ c ^ q * 1 ^ p) (few : c ≤ 330) (light : n < limit → b < a)
+    (part : (positive : 0 < a) (s : Side) → bounds s T (inverse (a // b) positive))
+    (below : n < limit → F ≡ whole 1 ⊘ T ↑ (p // q)) (from : limit ≤ n → F ≡ whole 1) where
+  raisable : b < a → Raisable a b p q
+  raisable more =
+      record {
+        some = some;
+        from-one = omega arith;
+        moderate = le-trans most (mul-le-mul-left b moderate);
+        small = small;
+        part = exponent .1;
+        fine = exponent .2;
+      }
+
+  limited : Follows F (if (ltb n limit) (powerOf a b p q) one)
+  limited = go (ltb n limit) refl
+    where
+      go : (t : Bool) → ltb n limit ≡ t → Follows F (if t (powerOf a b p q) one)
+      go true e =
+          let h = ltb-true n limit e in
+          let more = light h in
+          let positive : 0 < a = omega arith in
+          rw (below h)
+          (power-follows (raisable more) (exponent .0) more (turned (raisable more) m c positive (part positive) (omega arith) cap few))
+      go false e = rw (from (ltb-false n limit e)) exactly
+
 -- ── Bulk carriers ───────────────────────────────────────────────────────────────────────────
 
 module _ (dwt : Deadweight) (volume : ℕ) (d : Within 100 600000 (dwt .tonnes)) (v : Within 100 1000000 volume) where
-  pub cargo-raisable : dwt .tonnes * 100 < 55 * volume → Raisable volume (dwt .tonnes) 15 100
-  cargo-raisable h =
-      record {
-        some = omega (arith, d .least);
-        from-one = omega arith;
-        moderate = omega (arith, d .least, v .most);
-        small = omega (arith, v .most);
-        part = lit< tt;
-        fine = lit< tt;
-      }
-
   cargo-part : (p : 0 < volume) (s : Side) → bounds s (lit (dwt .tonnes // volume)) (inverse (volume // dwt .tonnes) p)
   cargo-part p s =
       let n : 0 < dwt .tonnes = omega (arith, d .least) in
@@ -71,50 +86,33 @@ module _ (dwt : Deadweight) (volume : ℕ) (d : Within 100 600000 (dwt .tonnes))
 
   cargo-follows : Follows (light-cargo dwt volume) (cargoOf dwt volume)
   unfolding cargoOf
-  cargo-follows = go (ltb (dwt .tonnes * 100) (55 * volume)) refl
-    where
-      go : (t : Bool) → ltb (dwt .tonnes * 100) (55 * volume) ≡ t → Follows (light-cargo dwt volume) (if t (powerOf volume (dwt .tonnes) 15 100) one)
-      go true e =
-          let h = ltb-true _ _ e in
-          let r = cargo-raisable h in
-          let p : 0 < volume = omega (arith, v .least) in
-          rw (light-cargo-some dwt volume (omega (arith, v .least)) h)
-          (power-follows r (lit< tt) (omega arith) (turned r 10000 4 p (cargo-part p) (omega (arith, d .least, v .most)) (lit≤ tt) (lit≤ tt)))
-      go false e = rw (light-cargo-none dwt volume (omega (arith, v .least)) (ltb-false _ _ e)) exactly
+  cargo-follows =
+      let p : 0 < volume = omega (arith, v .least) in
+      let some : 1 ≤ dwt .tonnes = omega (arith, d .least) in
+      let most : volume ≤ dwt .tonnes * 10000 = omega (arith, d .least, v .most) in
+      limited (dwt .tonnes * 100) (55 * volume) volume (dwt .tonnes) 15 100 10000 4
+      some (omega (arith, v .most)) most (lit≤ tt) (lit< tt, lit< tt, lit< tt) (lit≤ tt) (lit≤ tt) (λ h. omega arith)
+      cargo-part (light-cargo-some dwt volume p) (light-cargo-none dwt volume p)
 
 -- ── Vehicle carriers ────────────────────────────────────────────────────────────────────────
 
 module _ (dwt : Deadweight) (gross : GrossTonnage) (d : Within 100 600000 (dwt .tonnes)) (g : Within 100 400000 (gross .gt)) where
-  pub vehicles-raisable : dwt .tonnes * 100 < 35 * gross .gt → Raisable (35 * gross .gt) (100 * dwt .tonnes) 8 10
-  vehicles-raisable h =
-      record {
-        some = omega (arith, d .least);
-        from-one = omega arith;
-        moderate = omega (arith, d .least, g .most);
-        small = omega (arith, g .most);
-        part = lit< tt;
-        fine = lit< tt;
-      }
-
   vehicles-part : (p : 0 < 35 * gross .gt) (s : Side) → bounds s (lit (dwt .tonnes // gross .gt) ⊘ percent 35) (inverse ((35 * gross .gt) // (100 * dwt .tonnes)) p)
   vehicles-part p s =
       let n : 0 < 100 * dwt .tonnes = omega (arith, d .least) in
-      let m : 0 < gross .gt = omega (arith, g .least) in
+      let m : 0 < gross .gt = omega arith in
       let same : inverse ((35 * gross .gt) // (100 * dwt .tonnes)) p · 35 // 100 ≈ dwt .tonnes // gross .gt = record { cross = rw (suc-pred-eq-of-pos n, suc-pred-eq-of-pos m) (omega arith) } in
       by-quotient (by-lit (lies-refl s _)) (by-lit (lies-refl (other s) (35 // 100))) (lit< tt) (lies-≈ s same)
 
   vehicles-follows : Follows (light-vehicles dwt gross) (vehiclesOf dwt gross)
   unfolding vehiclesOf
-  vehicles-follows = go (ltb (dwt .tonnes * 100) (35 * gross .gt)) refl
-    where
-      go : (t : Bool) → ltb (dwt .tonnes * 100) (35 * gross .gt) ≡ t → Follows (light-vehicles dwt gross) (if t (powerOf (35 * gross .gt) (100 * dwt .tonnes) 8 10) one)
-      go true e =
-          let h = ltb-true _ _ e in
-          let r = vehicles-raisable h in
-          let p : 0 < 35 * gross .gt = omega (arith, g .least) in
-          rw (light-vehicles-some dwt gross (omega (arith, g .least)) h)
-          (power-follows r (lit< tt) (omega arith) (turned r 1400 330 p (vehicles-part p) (omega (arith, d .least, g .most)) (lit≤ tt) (lit≤ tt)))
-      go false e = rw (light-vehicles-none dwt gross (omega (arith, g .least)) (ltb-false _ _ e)) exactly
+  vehicles-follows =
+      let p : 0 < gross .gt = omega (arith, g .least) in
+      let some : 1 ≤ 100 * dwt .tonnes = omega (arith, d .least) in
+      let most : 35 * gross .gt ≤ 100 * dwt .tonnes * 1400 = omega (arith, d .least, g .most) in
+      limited (dwt .tonnes * 100) (35 * gross .gt) (35 * gross .gt) (100 * dwt .tonnes) 8 10 1400 330
+      some (omega (arith, g .most)) most (lit≤ tt) (lit< tt, lit< tt, lit< tt) (lit≤ tt) (lit≤ tt) (λ h. omega arith)
+      vehicles-part (light-vehicles-some dwt gross p) (light-vehicles-none dwt gross p)
 
 -- ── Every type ──────────────────────────────────────────────────────────────────────────────
 

@@ -1,10 +1,9 @@
 -- What the numbers of a record come to, as the code tests them.
 -- Assumes nothing.
 use Prim.Native.Nat.{ℕ, zero, suc, _+_, _*_, _≤_, _<_}
-use mathlib.Core.Path.{_≡_, refl, sym}
+use mathlib.Core.Path.{_≡_, refl}
 use mathlib.Core.Bool.{Bool}
 use native.Mathlib.Numerals.{unary-clauses}
-use native.Mathlib.Omega.{arith}
 use borrow.Author.Tests.{eq-eqb, ne-eqb, lt-ltb, le-ltb}
 use Rattle.exact.specs.Ship.{diesel}
 use Rattle.exact.specs.Index.{C-F, by-rule}
@@ -14,7 +13,7 @@ use Rattle.ship.specs.Accepted.{Within, Measured, Rated, Supplied}
 use Rattle.ship.specs.declared.Consumption.{Consumption}
 use Rattle.ship.specs.declared.Engine.{Engine}
 use Rattle.plant.specs.Plant.{end, grams, auxiliary-power}
-use Rattle.plant.proofs.Growth.{end-within, grams-within, engine-limit, auxiliary-most}
+use Rattle.plant.proofs.Growth.{end-within, grams-within, engine-limit}
 
 -- ── A fuel, a consumption ───────────────────────────────────────────────────────────────────
 

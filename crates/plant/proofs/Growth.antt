@@ -1,15 +1,15 @@
 -- How the emissions grow: larger consumptions and rated powers give no less, and the figures of an accepted record keep them in bounds.
 -- Assumes nothing.
-use Prim.Native.Nat.{ℕ, _+_, _*_, _≤_}
+use Prim.Native.Nat.{ℕ, _*_, _≤_}
 use mathlib.Core.Path.{_≡_, refl}
-use mathlib.Core.Bool.{Bool, true, false, not}
-use mathlib.Core.List.{List, [], _∷_}
+use mathlib.Core.Bool.{Bool, true, false}
+use mathlib.Core.List.{List}
 use native.Mathlib.Omega.{arith}
 use native.Mathlib.Nat.{mul-le-mul, mul-le-mul-left, add-le-add, le-refl}
 use lib.Dec.{lit≤}
 use lib.ListN.{length}
 use Rattle.exact.specs.Ship.{Fuel, diesel, light, heavy, propane, butane, lng, methanol, ethanol, Kind, Deadweight, Consumption, recorded, neither, Engine, Auxiliary, rule, table, Figures}
-use Rattle.exact.specs.Index.{if, container?, C-F, P-ME, rated, by-rule}
+use Rattle.exact.specs.Index.{if, container?, C-F, rated}
 use Rattle.exact.specs.Ranges.{Range, Uses, same-fuel, no-source, Engines, no-more, one-more, alike, Inside, Narrowed, most-favourable, least-favourable, uses-at, engines-at, ship-at, low, high}
 use Rattle.exact.proofs.Favour.{P-ME-mono, rated-mono, turn-uses, turn-engines, uses-end, engines-end, ship-inside, low-inside, high-inside}
 use Rattle.exact.proofs.Rules.{by-rule-min}

@@ -1,12 +1,12 @@
 -- The whole numbers are the values of the index's formulas.
 -- Assumes nothing.
-use Prim.Native.Nat.{ℕ, _+_, _*_}
+use Prim.Native.Nat.{ℕ, _*_}
 use mathlib.Core.Bool.{Bool, true, false}
 use mathlib.Core.List.{List, [], _∷_}
 use native.Mathlib.Omega.{arith}
 use Rattle.exact.specs.Formula.{_//_, Enclosed}
 use Rattle.exact.specs.Ship.{Deadweight, Kind, Consumption, recorded, neither, Engine, Auxiliary, rule, table, Figures}
-use Rattle.exact.specs.Index.{if, whole, percent, container?, C-F, emission, P-ME, main-emission, rated, P-AE, Capacity, f-m, emissions}
+use Rattle.exact.specs.Index.{if, whole, percent, container?, emission, main-emission, P-AE, Capacity, f-m, emissions}
 use Rattle.exact.specs.Formula.{Formula, _⊗_}
 use Rattle.exact.proofs.Formulas.{enclosed-≈, enclosed-lit, enclosed-sum, enclosed-product}
 use Rattle.ship.specs.Accepted.{hundredths}

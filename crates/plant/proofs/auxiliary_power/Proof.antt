@@ -1,6 +1,5 @@
 -- `plant::auxiliary_power` meets its contract.
 -- Assumes nothing.
-use mathlib.Core.Path.{_≡_}
 use native.Mathlib.Omega.{arith}
 use borrow.Author.Needs.{needs}
 use Rattle.plant.proofs.Entries.{table-most, by-table, small-plant, large-plant}
