@@ -19,6 +19,14 @@ over-part P d part ys at w h e y =
     let q : drop (at + w) part ≡ drop (at + w) d = sym (drop-drop w at part) ∙ ap (drop w) r ∙ drop-drop w at d in
     rw (post-is at (at + w) part (omega arith), t, q, y, take-add at w P) (sym (append-assoc (take at P) (take w (drop at P)) (drop (at + w) d)))
 
+-- Where part is A and then d, its next w elements become ys.
+pub next-part : (A d part ys : List ℕ) (at w : ℕ) → length A ≡ at → part ≡ A ++ drop at d → putMid at (at + w - at) part ys ≡ A ++ ys ++ drop (at + w) d
+next-part A d part ys at w n e =
+    let t : take at part ≡ A = rw e (take-at A (drop at d) at n) in
+    let r : drop at part ≡ drop at d = rw e (drop-at A (drop at d) at n) in
+    let q : drop (at + w) part ≡ drop (at + w) d = sym (drop-drop w at part) ∙ ap (drop w) r ∙ drop-drop w at d in
+    rw (post-is at (at + w) part (omega arith), t, q) (sym (append-assoc A ys (drop (at + w) d)))
+
 -- A number stored over a part of w elements has w bytes.
 pub bytes-part : (a w v : ℕ) (xs : List ℕ) → a + w ≤ length xs → bytes-of (length (midOf a (a + w - a) xs)) v ≡ bytes-of w v
 bytes-part a w v xs h =

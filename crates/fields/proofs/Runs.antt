@@ -6,9 +6,9 @@ use mathlib.Core.List.{List, [], _∷_, _++_, append-assoc}
 use native.Mathlib.Numerals.{add-one}
 use native.Mathlib.Omega.{arith}
 use lib.ListN.{length, getD, take, drop, length-append, drop-of-length-le}
-use lib.Seq.{drop-cons, take-at, drop-at, take-add, drop-drop}
+use lib.Seq.{drop-cons, take-at, drop-at, take-add, drop-drop, take-take}
 use Rattle.fields.specs.Numbers.{bytes-of, value-of, number-at}
-use Rattle.fields.specs.Runs.{pack, numbers-at, total}
+use Rattle.fields.specs.Runs.{pack, numbers-at, total, widths-of, numbers-of, packed}
 use Rattle.fields.proofs.Numbers.{bytes-of-length, value-bytes, Bytes, bytes-number}
 
 -- ── A run, field by field ───────────────────────────────────────────────────────────────────
@@ -31,6 +31,16 @@ unfolding pack total
 pack-length [] vs h = refl
 pack-length (w ∷ ws) [] h = absurd (omega arith)
 pack-length (w ∷ ws) (v ∷ vs) h = rw (length-append (bytes-of w v) (pack ws vs), bytes-of-length w v, pack-length ws vs (omega arith))
+
+pub packed-append : (fs gs : List (ℕ × ℕ)) → packed (fs ++ gs) ≡ packed fs ++ packed gs
+unfolding pack
+packed-append [] gs = refl
+packed-append (f ∷ fs) gs = ap (λ (l : List ℕ). bytes-of (f .0) (f .1) ++ l) (packed-append fs gs) ∙ sym (append-assoc (bytes-of (f .0) (f .1)) (packed fs) (packed gs))
+
+pub packed-length : (fs : List (ℕ × ℕ)) → length (packed fs) ≡ total (widths-of fs)
+unfolding pack total
+packed-length [] = refl
+packed-length (f ∷ fs) = rw (length-append (bytes-of (f .0) (f .1)) (packed fs), bytes-of-length (f .0) (f .1), packed-length fs)
 
 -- The next field of a run from at.
 module _ (ws vs : List ℕ) (at i : ℕ) (h : i < length ws) (k : i < length vs)
@@ -73,3 +83,26 @@ repack (w ∷ ws) b at h k =
       take-add w (total ws) (drop at b),
       drop-drop w at b,
     )
+
+-- ── A run inside a part ─────────────────────────────────────────────────────────────────────
+
+part-number : (b : List ℕ) (a k at w : ℕ) → at + w ≤ k → number-at (take k (drop a b)) at w ≡ number-at b (a + at) w
+unfolding number-at
+part-number b a k at w h =
+    let e : take w (drop at (take k (drop a b))) ≡ take w (drop (a + at) b) = cut (drop a b) k at w h ∙ rw (drop-drop at a b) in
+    ap value-of e
+  where
+    cut : (l : List ℕ) (k at w : ℕ) → at + w ≤ k → take w (drop at (take k l)) ≡ take w (drop at l)
+    cut l k zero w h = take-take w k l (omega arith)
+    cut [] zero (suc at) w h = absurd (omega arith)
+    cut (x ∷ l) zero (suc at) w h = absurd (omega arith)
+    cut [] (suc k) (suc at) w h = refl
+    cut (x ∷ l) (suc k) (suc at) w h = cut l k at w (omega arith)
+
+-- What is read in a part is what is read in the whole.
+pub part-numbers : (b : List ℕ) (a k : ℕ) (ws : List ℕ) (at : ℕ) → at + total ws ≤ k → numbers-at (take k (drop a b)) at ws ≡ numbers-at b (a + at) ws
+unfolding numbers-at total
+part-numbers b a k [] at h = refl
+part-numbers b a k (w ∷ ws) at h =
+    let e : a + (at + w) ≡ a + at + w = omega arith in
+    ap₂ {C = List ℕ} (λ x xs. x ∷ xs) (part-number b a k at w (omega arith)) (rw e at (part-numbers b a k ws (at + w) (omega arith)))

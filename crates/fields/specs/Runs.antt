@@ -1,7 +1,7 @@
--- Runs of fields: a list of widths, and a list of numbers, one for each.
+-- Runs of fields: each a width and a number.
 -- Assumes nothing.
 use Prim.Native.Nat.{ℕ, _+_}
-use mathlib.Core.List.{List, [], _∷_, _++_}
+use mathlib.Core.List.{List, [], _∷_, _++_, map}
 use Rattle.fields.specs.Numbers.{bytes-of, number-at}
 
 -- The bytes of the numbers, each at its width, one after the other.
@@ -18,3 +18,13 @@ numbers-at b at (w ∷ ws) = number-at b at w ∷ numbers-at b (at + w) ws
 unfoldable pub total : List ℕ → ℕ
 total [] = 0
 total (w ∷ ws) = w + total ws
+
+-- A run as a list of pairs, its widths, its numbers, and its bytes.
+abbrev pub widths-of : List (ℕ × ℕ) → List ℕ
+widths-of = map (λ (f : ℕ × ℕ). f .0)
+
+abbrev pub numbers-of : List (ℕ × ℕ) → List ℕ
+numbers-of = map (λ (f : ℕ × ℕ). f .1)
+
+abbrev pub packed : List (ℕ × ℕ) → List ℕ
+packed fs = pack (widths-of fs) (numbers-of fs)

@@ -3,7 +3,7 @@
 use Prim.Native.Nat.{ℕ, zero, suc, _+_, _*_, _≤_, _<_}
 use mathlib.Core.Path.{_≡_, refl, sym, ap, _∙_}
 use mathlib.Core.Bool.{Bool, true, false, _&&_, _||_, not}
-use mathlib.Core.List.{List}
+use mathlib.Core.List.{List, _++_}
 use native.Mathlib.Omega.{arith}
 use borrow.Author.Tests.{ltb-false, eq-eqb, ne-eqb, eqb-true, eqb-false, le-leb, not-false}
 use lib.Dec.{eqb, ltb, leb}
@@ -11,7 +11,7 @@ use lib.ListN.{getD}
 use Rattle.exact.specs.Index.{if, sum-P-ME}
 use Rattle.exact.specs.Ranges.{engines-at, low}
 use Rattle.ship.specs.Record.{no-engine}
-use Rattle.ship.specs.Refusals.{first-of}
+use Rattle.ship.specs.Refusals.{first-of, or-else}
 use Rattle.ship.specs.Figures.{mains}
 use Rattle.ship.specs.Rules.{outside, between, nonzero, gross-refused, volume-refused, any-used, any-unused, engine-refused, engines-refused, uses-refused, consumption-refused, auxiliary-refused, speed-refused, crossed, range-refused, engine-crossed, ranges-refused, capacity, apart, trial-refused, occupied, tests, refusal-of}
 use Rattle.ship.specs.Accepted.{Within, Near}
@@ -21,14 +21,20 @@ use Rattle.ship.specs.declared.Engine.{Engine}
 use Rattle.ship.specs.declared.Trial.{Trial}
 use Rattle.ship.specs.declared.Particulars.{Particulars}
 use Rattle.ship.specs.declared.Ship.{Ship}
+use Rattle.ship.specs.declared.Refusal.{Refusal}
 use Rattle.ship.specs.declared.Refusal.the-variants as refusal
-use Rattle.ship.proofs.Order.{passed}
+use Rattle.ship.proofs.Order.{passed, first-append, onward}
 use Rattle.ship.proofs.Tests.{neither, not-with, inside, is-zero, each-used, each-unused, engines-inside, Sized, engine-inside, limit-most}
 
 -- No refusal, so no test holds.
 pub holds : (s : Ship) → refusal-of s ≡ refusal.None → (i : ℕ) → getD (tests s) i (false, refusal.None) .0 ≡ false
 unfolding refusal-of tests
 holds s e = passed (tests s) refusal.None refl e
+
+-- Tests that come after a record's own count only where it has no refusal.
+pub after-own : (s : Ship) (us : List (Bool × Refusal)) → first-of (tests s ++ us) refusal.None ≡ or-else (refusal-of s) (first-of us refusal.None)
+unfolding refusal-of tests
+after-own s us = first-append (tests s) us refusal.None ∙ onward (tests s) (first-of us refusal.None) refl
 
 -- ── Guards that are met ─────────────────────────────────────────────────────────────────────
 

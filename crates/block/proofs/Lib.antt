@@ -1,0 +1,5 @@
+pub mod Codec
+pub mod Answering
+pub mod Fitting
+pub mod Trips
+pub mod Theorems

@@ -1,0 +1,11 @@
+-- `ship::rules::engine_broken` meets its contract.
+-- Written out so that a wrong limit is shown here, at what it breaks. Assumes nothing.
+use mathlib.Core.Path.{refl}
+use Rattle.ship.proofs.rules.engine_broken.Statement.{statement}
+use Rattle.ship.proofs.rules.engine_broken.Tie as tie
+
+returns : tie.Need-returns
+returns c = refl
+
+pub engine-broken-spec : {M : Type 1} → statement M
+engine-broken-spec = tie.close (tie.spec returns)

@@ -1,0 +1,393 @@
+#!/usr/bin/env python3
+"""Cases for the programs `blocks` and `files`, from document 01 alone: the block's table, the table of refusals, the writer.
+
+    tests/blocks.py            writes stdin and stdout of both programs
+    tests/blocks.py --check    says whether the stored ones are these
+
+Each case states by hand which refusal the document gives. A second reading of the table, `refusal` below, has to agree before
+anything is written. Nothing here was taken from a program's output."""
+import os
+import sys
+from fractions import Fraction
+
+ROOT = os.path.join(os.path.dirname(os.path.abspath(__file__)), "..", "crates")
+
+# ── The block: bytes, field ──────────────────────────────────────────────────────────────────────
+
+PLACES = {
+    "layout": (0, 2), "type": (2, 1), "method": (3, 1), "imo": (4, 4), "deadweight": (8, 4), "gross": (12, 4),
+    "volume": (16, 4), "speed_low": (20, 4), "speed_high": (24, 4), "trial_power": (28, 4), "trial_deadweight": (32, 4),
+    "aux_method": (36, 1), "ice": (37, 1), "engines": (38, 1), "aux_source": (39, 1), "table_power": (40, 4),
+    "aux_low": (44, 2), "aux_high": (46, 2), "aux_fuel": (48, 1),
+}
+ENTRY = {"mcr_low": (0, 4), "mcr_high": (4, 4), "limit": (8, 4), "sfc_low": (12, 2), "sfc_high": (14, 2), "fuel": (16, 1), "source": (17, 1)}
+for k in range(4):
+    for name, (at, width) in ENTRY.items():
+        PLACES[f"{name}{k}"] = (52 + 20 * k + at, width)
+ZERO = [49, 50, 51] + [52 + 20 * k + j for k in range(4) for j in (18, 19)] + list(range(132, 508))
+
+
+def sums(data):
+    a, b = 1, 0
+    for byte in data:
+        a = (a + byte) % 65536
+        b = (b + a) % 65536
+    return a, b
+
+
+def seal(data):
+    """The 508 bytes with their checks behind them."""
+    a, b = sums(data[:508])
+    return bytes(data[:508]) + a.to_bytes(2, "little") + b.to_bytes(2, "little")
+
+
+def block(ship, **changed):
+    """The block of a ship with some fields changed; `bytes` gives single bytes besides."""
+    data = bytearray(508)
+    single = changed.pop("bytes", {})
+    for name, number in {**ship, **changed}.items():
+        at, width = PLACES[name]
+        data[at:at + width] = number.to_bytes(width, "little")
+    for at, byte in single.items():
+        data[at] = byte
+    return seal(data)
+
+
+# ── A second reading of the table of refusals ────────────────────────────────────────────────────
+
+
+def refusal(piece):
+    if len(piece) != 512:
+        return 1
+    if seal(piece) != piece:
+        return 2
+    f = {name: int.from_bytes(piece[at:at + width], "little") for name, (at, width) in PLACES.items()}
+    if f["layout"] != 1:
+        return 3
+    digits = f"{f['imo']:07d}"
+    weighted = sum(w * int(d) for w, d in zip((7, 6, 5, 4, 3, 2), digits))
+    if len(digits) != 7 or f["imo"] < 1000000 or digits[-1] != str(weighted)[-1]:
+        return 4
+    if f["type"] not in range(1, 8):
+        return 5
+    if not 100 <= f["deadweight"] <= 600000:
+        return 6
+    if not (100 <= f["gross"] <= 400000 if f["type"] == 7 else f["gross"] == 0):
+        return 7
+    if not (100 <= f["volume"] <= 1000000 if f["type"] == 1 else f["volume"] == 0):
+        return 8
+    if f["engines"] not in (1, 2, 3, 4):
+        return 9
+    used, unused = range(f["engines"]), range(f["engines"], 4)
+    for k in used:
+        low, high, limit = f[f"mcr_low{k}"], f[f"mcr_high{k}"], f[f"limit{k}"]
+        if not 100 <= low <= 120000 or not 100 <= high <= 120000 or not (limit == 0 or 100 <= limit <= low):
+            return 9
+    consumptions = [(f["aux_source"], f["aux_low"], f["aux_high"], f["aux_fuel"])]
+    consumptions += [(f[f"source{k}"], f[f"sfc_low{k}"], f[f"sfc_high{k}"], f[f"fuel{k}"]) for k in used]
+    for source, low, high, fuel in consumptions:
+        if source not in (1, 2, 3):
+            return 10
+        if source < 3 and not (500 <= low <= 4000 and 500 <= high <= 4000 and 1 <= fuel <= 8):
+            return 10
+        if source == 3 and (low or high or fuel):
+            return 10
+    if not (f["aux_method"] == 1 and f["table_power"] == 0 or f["aux_method"] == 2 and 1 <= f["table_power"] <= 50000):
+        return 11
+    if f["ice"] > 1:
+        return 12
+    method, ends = f["method"], (f["speed_low"], f["speed_high"])
+    if method not in (1, 2, 3, 4) or method == 3 and f["type"] not in (1, 3, 4):
+        return 13
+    if any(not 500 <= v <= 6000 for v in ends) if method < 4 else any(ends):
+        return 13
+    mcrs = [(f[f"mcr_low{k}"], f[f"mcr_high{k}"]) for k in used]
+    if any(low > high for low, high in [ends] + mcrs + [(low, high) for _, low, high, _ in consumptions]):
+        return 14
+    if method > 1 and any(low != high for low, high in [ends] + mcrs):
+        return 14
+    power, tonnes = f["trial_power"], f["trial_deadweight"]
+    if method in (1, 4) and (power or tonnes):
+        return 15
+    if method in (2, 3):
+        total = sum(Fraction(75 * low, 100) if not f[f"limit{k}"] else min(Fraction(83 * f[f"limit{k}"], 100), Fraction(75 * low, 100))
+                    for k, (low, _) in zip(used, mcrs))
+        if not 1 <= power <= 600000 or power > 5 * total or total > 5 * power:
+            return 15
+    if method == 2 and tonnes:
+        return 15
+    if method == 3:
+        capacity = Fraction(f["deadweight"]) * (Fraction(7, 10) if f["type"] == 4 else 1)
+        if tonnes == 0 or tonnes > 5 * capacity or capacity > 5 * tonnes:
+            return 15
+    if any(piece[at] for at in ZERO) or any(any(piece[52 + 20 * k:72 + 20 * k]) for k in unused):
+        return 16
+    return 0
+
+
+# ── Ships that are accepted ──────────────────────────────────────────────────────────────────────
+
+S = {"layout": 1, "type": 1, "method": 1, "imo": 9074729, "deadweight": 50000, "volume": 60000, "speed_low": 1400, "speed_high": 1400,
+     "aux_method": 1, "engines": 1, "aux_source": 1, "aux_low": 2000, "aux_high": 2000, "aux_fuel": 1,
+     "mcr_low0": 8000, "mcr_high0": 8000, "sfc_low0": 1800, "sfc_high0": 1800, "fuel0": 3, "source0": 1}
+OTHER = {**S, "type": 2, "volume": 0}  # any type but 1 and 7
+VEHICLE = {**S, "type": 7, "volume": 0, "gross": 50000, "deadweight": 20000}
+TRIAL = {**S, "method": 2, "trial_power": 6000}
+DESIGN = {**S, "method": 3, "trial_power": 6000, "trial_deadweight": 40000}
+TANKER = {**DESIGN, "type": 3, "volume": 0}
+BOXES = {**DESIGN, "type": 4, "volume": 0}
+STATISTICAL = {**S, "method": 4, "speed_low": 0, "speed_high": 0}
+
+
+def engine(k, mcr=8000, **more):
+    return {f"mcr_low{k}": mcr, f"mcr_high{k}": mcr, f"sfc_low{k}": 1800, f"sfc_high{k}": 1800, f"fuel{k}": 3, f"source{k}": 1,
+            **{f"{name}{k}": number for name, number in more.items()}}
+
+
+FOUR = {**S, "engines": 4, **engine(1), **engine(2), **engine(3)}
+
+cases = []
+
+
+def case(wanted, piece):
+    assert refusal(piece) == wanted, (len(cases), wanted, refusal(piece))
+    cases.append((wanted, piece))
+
+
+def ends(number, ship, name, low, high, also=lambda value: {}):
+    """Both ends of a range, and the numbers just outside."""
+    for value, wanted in ((low - 1, number), (low, 0), (high, 0), (high + 1, number)):
+        case(wanted, block(ship, **{name: value, **also(value)}))
+
+
+def same(*names):
+    return lambda value: {name: value for name in names}
+
+
+for ship in (S, OTHER, VEHICLE, TRIAL, DESIGN, TANKER, BOXES, STATISTICAL, FOUR):
+    case(0, block(ship))
+
+# 1: not 512 bytes
+for length in (0, 1, 511, 513, 1024):
+    case(1, (block(S) * 2)[:length])
+
+# 2: check differs
+whole = block(S)
+for at in (508, 509, 510, 511, 507, 0, 300):
+    case(2, whole[:at] + bytes([whole[at] ^ 1]) + whole[at + 1:])
+case(2, bytes(512))
+case(2, whole[:9] + whole[10:11] + whole[9:10] + whole[11:])  # two bytes exchanged: only B differs
+
+# 3: layout not 1
+for layout in (0, 2, 257, 256, 65535):
+    case(3, block(S, layout=layout))
+
+# 4: IMO number
+for imo, wanted in ((1000007, 0), (9999993, 0), (999990, 4), (10000000, 4), (9074728, 4), (9074720, 4), (1000000, 4), (9999999, 4), (0, 4), (4294967295, 4)):
+    case(wanted, block(S, imo=imo))
+for imo in (9176187, 9319466, 1234567):  # one digit of six moved on, the check digit left
+    last = str(sum(w * int(d) for w, d in zip((7, 6, 5, 4, 3, 2), str(imo))))[-1]
+    right = imo // 10 * 10 + int(last)
+    case(0, block(S, imo=right))
+    for place in (1, 2, 3, 4, 5, 6):
+        moved = right + 10 ** place
+        if str(moved)[-place - 1] != "0" and len(str(moved)) == 7:
+            case(4, block(S, imo=moved))  # the weights 2 to 7 all show in the last digit
+
+# 5: type not 1–7
+case(5, block(OTHER, type=0))
+case(0, block(S, type=1))
+case(0, block(VEHICLE, type=7))
+case(5, block(OTHER, type=8))
+case(5, block(OTHER, type=255))
+for kind in (2, 3, 4, 5, 6):
+    case(0, block(OTHER, type=kind))
+
+# 6: deadweight not 100–600,000
+ends(6, S, "deadweight", 100, 600000)
+case(6, block(S, deadweight=0))
+case(6, block(S, deadweight=4294967295))
+
+# 7: gross tonnage
+ends(7, VEHICLE, "gross", 100, 400000)
+case(7, block(VEHICLE, gross=0))
+case(7, block(S, gross=1))
+case(7, block(OTHER, gross=50000))
+
+# 8: cargo volume
+ends(8, S, "volume", 100, 1000000)
+case(8, block(S, volume=0))
+case(8, block(OTHER, volume=1))
+case(8, block(VEHICLE, volume=60000))
+
+# 9: engines, MCR, limit
+case(9, block(S, engines=0))
+case(9, block(FOUR, engines=5))
+case(9, block(FOUR, engines=255))
+for n in (2, 3):
+    used = {**S, "engines": n, **{name: number for k in range(1, n) for name, number in engine(k).items()}}
+    case(0, block(used))
+for ship, k in ((S, 0), (FOUR, 1), (FOUR, 2), (FOUR, 3)):
+    ends(9, ship, f"mcr_low{k}", 100, 120000, same(f"mcr_high{k}"))
+    ends(9, {**ship, f"mcr_low{k}": 100}, f"mcr_high{k}", 100, 120000)
+    ends(9, ship, f"limit{k}", 100, 8000)
+    case(0, block(ship, **{f"limit{k}": 0}))
+    case(9, block(ship, **{f"limit{k}": 1}))
+    ranged = {**ship, f"mcr_low{k}": 7000}
+    case(0, block(ranged, **{f"limit{k}": 7000}))
+    case(9, block(ranged, **{f"limit{k}": 7001}))
+
+# 10: consumption, of the auxiliary engines and of each main engine
+for ship, low, high, fuel, source in [(S, "aux_low", "aux_high", "aux_fuel", "aux_source")] + [
+        (FOUR if k else S, f"sfc_low{k}", f"sfc_high{k}", f"fuel{k}", f"source{k}") for k in range(4)]:
+    for kind in (1, 2):
+        given = {**ship, source: kind}
+        ends(10, {**given, high: 4000}, low, 500, 4000)
+        ends(10, {**given, low: 500}, high, 500, 4000)
+        ends(10, given, fuel, 1, 8)
+        case(10, block(given, **{low: 0, high: 0}))  # empty SFC
+    case(10, block(ship, **{source: 0}))
+    case(10, block(ship, **{source: 4}))
+    neither = {**ship, source: 3, low: 0, high: 0, fuel: 0}
+    case(0, block(neither))
+    for name in (low, high, fuel):
+        case(10, block(neither, **{name: 1}))
+
+# 11: auxiliary power
+for method, power, wanted in ((0, 0, 11), (1, 0, 0), (1, 1, 11), (2, 0, 11), (2, 1, 0), (2, 50000, 0), (2, 50001, 11), (3, 0, 11), (3, 500, 11)):
+    case(wanted, block(S, aux_method=method, table_power=power))
+
+# 12: ice
+for ice, wanted in ((0, 0), (1, 0), (2, 12), (255, 12)):
+    case(wanted, block(S, ice=ice))
+
+# 13: method and speed
+case(13, block(S, method=0))
+case(13, block(STATISTICAL, method=5))
+for kind, wanted in ((1, 0), (2, 13), (3, 0), (4, 0), (5, 13), (6, 13), (7, 13)):
+    case(wanted, block({**(S if kind == 1 else VEHICLE if kind == 7 else OTHER), "method": 3, "trial_power": 6000, "trial_deadweight": 40000}, type=kind))
+ends(13, {**S, "speed_high": 6000}, "speed_low", 500, 6000)
+ends(13, {**S, "speed_low": 500}, "speed_high", 500, 6000)
+for ship in (TRIAL, DESIGN):
+    ends(13, ship, "speed_low", 500, 6000, same("speed_high"))
+for name in ("speed_low", "speed_high"):
+    case(13, block(STATISTICAL, **{name: 1}))
+
+# 14: low ends above high ends, and ends that differ
+for ship, low, high in ((S, "speed_low", "speed_high"), (S, "aux_low", "aux_high"), (S, "mcr_low0", "mcr_high0"), (S, "sfc_low0", "sfc_high0"),
+                        (FOUR, "mcr_low3", "mcr_high3"), (FOUR, "sfc_low3", "sfc_high3")):
+    case(0, block(ship, **{low: 1300, high: 1301}))
+    case(0, block(ship, **{low: 1300, high: 1300}))
+    case(14, block(ship, **{low: 1301, high: 1300}))
+for ship in (TRIAL, DESIGN, STATISTICAL):
+    case(14, block(ship, mcr_low0=7999))
+    case(0, block(ship, sfc_low0=1799, aux_low=1999))
+    second = {**ship, "engines": 2, **engine(1)}
+    case(0, block(second))
+    case(14, block(second, mcr_high1=8001))
+for ship in (TRIAL, DESIGN):
+    case(14, block(ship, speed_low=1399))
+
+# 15: the trial
+for ship in (S, STATISTICAL):
+    case(15, block(ship, trial_power=1))
+    case(15, block(ship, trial_deadweight=1))
+case(15, block(TRIAL, trial_deadweight=1))
+for ship in (TRIAL, DESIGN):
+    case(15, block(ship, trial_power=0))
+    ends(15, ship, "trial_power", 1200, 30000)  # 6,000 kW, a fifth and five times
+    limited = {**ship, "limit0": 7000}  # 5,810 kW
+    ends(15, limited, "trial_power", 1162, 29050)
+    limited = {**ship, "limit0": 7228}  # 5,999.24 kW
+    ends(15, limited, "trial_power", 1200, 29996)
+    limited = {**ship, "limit0": 7229}  # 6,000.07, so 6,000 kW
+    ends(15, limited, "trial_power", 1200, 30000)
+    least = {**ship, "mcr_low0": 100, "mcr_high0": 100}  # 75 kW
+    ends(15, least, "trial_power", 15, 375)
+    most = {**ship, "engines": 4, **engine(0, 120000), **engine(1, 120000), **engine(2, 120000), **engine(3, 120000)}  # 360,000 kW
+    ends(15, most, "trial_power", 72000, 600000)
+    uneven = {**ship, "engines": 2, **engine(1, 401)}  # 6,300.75 kW
+    ends(15, uneven, "trial_power", 1261, 31503)
+for ship in (DESIGN, TANKER):
+    case(15, block(ship, trial_deadweight=0))
+    ends(15, ship, "trial_deadweight", 10000, 250000)
+ends(15, BOXES, "trial_deadweight", 7000, 175000)  # 70 % of 50,000
+ends(15, {**BOXES, "deadweight": 50001}, "trial_deadweight", 7001, 175003)  # 35,000.7
+case(15, block(DESIGN, trial_deadweight=4294967295))
+case(15, block(TRIAL, trial_power=4294967295))
+
+# 16: bytes that must be zero, unused engine entries
+for at in ZERO[:11] + [132, 133, 300, 506, 507]:
+    case(16, block(S, bytes={at: 1}))
+    case(16, block(FOUR, bytes={at: 255}))
+for k in (1, 2, 3):
+    for name in ENTRY:
+        case(16, block(S, **{f"{name}{k}": 1}))
+case(16, block(S, **engine(1)))
+case(16, block({**S, "engines": 3, **engine(1), **engine(2), **engine(3)}))
+case(16, block(S, mcr_low1=2, mcr_high1=1))  # an unused entry has no order
+
+# The order: a block that breaks rule n and every later one
+faults = [(4, {"imo": 9074728}), (5, {"type": 8}), (6, {"deadweight": 99}), (7, {"gross": 1}), (8, {"volume": 99}), (9, {"mcr_low0": 99}),
+          (10, {"fuel0": 9}), (11, {"aux_method": 3}), (12, {"ice": 2}), (13, {"speed_high": 6001}), (14, {"aux_low": 2001}),
+          (15, {"trial_power": 1}), (16, {"bytes": {132: 1}})]
+for i, (number, _) in enumerate(faults):
+    broken = {}
+    for _, fault in faults[i:]:
+        broken.update(fault)
+    case(number, block(S, **broken))
+    case(number, block(S, **faults[i][1]))
+    if number < 16:
+        case(number, block(S, **faults[i][1], **faults[i + 1][1]))
+everything = {name: value for _, fault in faults for name, value in fault.items()}
+case(3, block(S, layout=2, **everything))
+case(2, block(S, layout=2, **everything)[:511] + b"\xff")
+case(1, (block(S, layout=2, **everything)[:511]))
+
+# ── Writing ──────────────────────────────────────────────────────────────────────────────────────
+
+writes = []
+
+
+def write(size, number, piece, wanted):
+    file = bytearray((7 * i + 3) % 251 for i in range(size))
+    given = bytes(file)
+    own = refusal(piece) == 0
+    answer = 4 if not own else 17 if (number + 1) * 512 > size else 0  # a refused block has the empty record, whose IMO number is 0
+    assert answer == wanted, (len(writes), wanted, answer)
+    if answer == 0:
+        file[number * 512:(number + 1) * 512] = piece
+    a, b = sums(file)
+    writes.append((size.to_bytes(2, "little") + number.to_bytes(8, "little") + piece + given, f"{answer} {a} {b}\n"))
+
+
+for ship in (S, VEHICLE, TRIAL, DESIGN, BOXES, STATISTICAL, FOUR):
+    for number in range(4):
+        write(2048, number, block(ship), 0)
+for size, number, wanted in ((0, 0, 17), (511, 0, 17), (512, 0, 0), (512, 1, 17), (513, 0, 0), (1023, 1, 17), (1024, 1, 0), (1024, 2, 17),
+                             (1535, 2, 17), (1536, 2, 0), (1600, 1, 0), (2047, 3, 17), (2048, 3, 0), (2048, 4, 17)):
+    write(size, number, block(S), wanted)
+for number in (2 ** 55 - 1, 2 ** 55, 2 ** 55 + 1, 2 ** 56, 2 ** 63, 2 ** 64 - 1):  # number × 512 passes 2^64 from 2^55 on
+    write(2048, number, block(S), 17)
+write(2048, 1, bytes(512), 4)
+write(0, 1, bytes(512), 4)
+write(2048, 2 ** 64 - 1, block(S, ice=2), 4)
+
+# ── Stored ───────────────────────────────────────────────────────────────────────────────────────
+
+MADE = {
+    "blocks/stdin": b"".join(len(piece).to_bytes(2, "little") + piece for _, piece in cases),
+    "blocks/stdout": "".join(f"{wanted}\n" for wanted, _ in cases).encode(),
+    "files/stdin": b"".join(given for given, _ in writes),
+    "files/stdout": "".join(line for _, line in writes).encode(),
+}
+given = {wanted for wanted, _ in cases}
+assert given == set(range(17)), given
+if sys.argv[1:] == ["--check"]:
+    wrong = [name for name, data in MADE.items() if open(os.path.join(ROOT, name), "rb").read() != data]
+    print(f"tests/blocks.py: {len(cases)} blocks, {len(writes)} writes; " + ("not as stored: " + ", ".join(wrong) if wrong else "as stored"))
+    sys.exit(1 if wrong else 0)
+for name, data in MADE.items():
+    with open(os.path.join(ROOT, name), "wb") as file:
+        file.write(data)
+print(f"tests/blocks.py: {len(cases)} blocks, {len(writes)} writes")
