@@ -31,7 +31,7 @@ use Rattle.index.proofs.Rounding.{lower-floor, upper-ceil, upper-small,
 -- ── What the rules leave of the speed ───────────────────────────────────────────────────────
 
 -- Where no rated power is a range, the sum of P_ME is the same at both ends.
-same-power : (top : Bool) (es : List (Engine Range)) → Single es → sum-P-ME (engines-at low es) ≡ sum-P-ME (engines-at (end top) es)
+pub same-power : (top : Bool) (es : List (Engine Range)) → Single es → sum-P-ME (engines-at low es) ≡ sum-P-ME (engines-at (end top) es)
 unfolding engines-at sum-P-ME Single
 same-power top [] s = refl
 same-power false (e ∷ es) s = refl

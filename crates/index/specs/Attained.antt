@@ -3,6 +3,7 @@
 use mathlib.Core.Path.{_≡_}
 use Prim.Native.Nat.{ℕ, _+_, _*_, _/_, _^_, _≤_, _<_}
 use Rattle.exact.specs.Ship.{Figures}
+use Rattle.exact.specs.Ranges.{Range, most-favourable, least-favourable}
 use Rattle.exact.specs.Index.{sum-P-ME}
 use Rattle.number.specs.Division.{ceilOf}
 use Rattle.power.specs.declared.Bounds.{Bounds}
@@ -10,6 +11,8 @@ use Rattle.ship.specs.Accepted.{Within, hundredths}
 use Rattle.plant.specs.Plant.{N, ice-factor}
 use Rattle.factor.specs.Factor.{factorOf}
 use Rattle.speed.specs.Speeds.{speedOf}
+use Rattle.index.specs.declared.SpeedBounds.{SpeedBounds}
+use Rattle.index.specs.declared.Index.{Index}
 
 -- ── From emissions n in 10^-7 g/h, Capacity times f_m in 10^-4 t, a speed in 10^-6 knot and f_c in 2^-30 ──
 
@@ -52,3 +55,13 @@ lower-of f = lowerOf (N f) (load f) (speed-of f .hi) (factor-of f .hi)
 
 unfoldable pub upper-of : Figures ℕ → ℕ
 upper-of f = upperOf (N f) (load f) (speed-of f .lo) (factor-of f .lo)
+
+-- ── Of a ship with ranges ───────────────────────────────────────────────────────────────────
+
+-- The speed bounds of the most and of the least favourable ship.
+unfoldable pub speeds-of : Figures Range → SpeedBounds
+speeds-of r = record { most = speed-of (most-favourable r); least = speed-of (least-favourable r) }
+
+-- The lower bound is the most favourable ship's, the upper bound the least favourable's.
+unfoldable pub index-of : Figures Range → Index
+index-of r = record { lower = lower-of (most-favourable r); upper = upper-of (least-favourable r) }

@@ -7,11 +7,10 @@ ghost use Prim.Native.Nat.{_*_, _/_, _^_, _≤_, _<_};
 ghost use Rattle.ship.specs.Figures.{figures};
 ghost use Rattle.ship.specs.Rules.{refusal-of};
 ghost use Rattle.ship.specs.declared.Refusal.the-variants as refusal;
-ghost use Rattle.plant.specs.Plant.{at-end};
-ghost use Rattle.index.specs.Attained.{Sized, lowerOf, upperOf, speed-of, lower-of, upper-of};
+ghost use Rattle.index.specs.Attained.{Sized, lowerOf, upperOf, speeds-of, index-of};
 
 // The speed of the most and of the least favourable ship, in millionths of a knot.
-pub struct Speeds {
+pub struct SpeedBounds {
     pub most: Bounds,
     pub least: Bounds,
 }
@@ -39,4 +38,36 @@ fn upper(n: u64, load: u64, v: u64, c: u64) -> u64
     let f = c * 1000000 / 1073741824;
     let q = number::division::ceil_scaled(n, load * v, 10, 15);
     (q + (f - 1)) / f
+}
+
+// The speed bounds of a record. Only with a declared speed do the ends of its ranges enter; by any other method the most and
+// the least favourable ship have one speed.
+pub fn speeds(s: Ship) -> SpeedBounds
+    requires { ⌜ refusal-of s ≡ refusal.None ⌝ }
+    ensures { λ r. ⌜ r ≡ speeds-of (figures s) ⌝ }
+{
+    let p = s.particulars;
+    let most = speed::speed(p, s.speed.high, plant::power(s, false));
+    if p.method == 1 {
+        let least = speed::speed(p, s.speed.low, plant::power(s, true));
+        return SpeedBounds { most, least };
+    }
+    SpeedBounds { most, least: most }
+}
+
+// The bounds of a record's index from its speed bounds.
+pub fn attained(s: Ship, v: SpeedBounds) -> Index
+    requires { ⌜ (refusal-of s ≡ refusal.None) × (v ≡ speeds-of (figures s)) ⌝ }
+    ensures { λ r. ⌜ r ≡ index-of (figures s) ⌝ }
+{
+    let c = factor::factor(s);
+    let most = v.most;
+    let least = v.least;
+    let load = plant::capacity(s) * plant::ice_factor(s.particulars.ice);
+    let low = lower(plant::emissions(s, false), load, most.hi, c.hi);
+    let high = upper(plant::emissions(s, true), load, least.lo, c.lo);
+    Index {
+        lower: low,
+        upper: high,
+    }
 }
