@@ -23,8 +23,8 @@ inverted : {T : Formula} {x e : Frac} (s : Side) (t : Frac) (p : 0 < t .num) (q 
 inverted s t p q k h = by-quotient (by-lit (lies-refl s _)) (by-power k (power-inverse s p q h)) (t .pos) (lies-≈ s (times-inverse t p))
 
 -- The power of what is at most m is at most c, where c is at least the power of m.
-capped : (t a m c p q : ℕ) {u b : ℕ} → 0 < u → 0 < b → 0 < q → a * 1 ≤ m * b → m ^ p * 1 ^ q ≤ c ^ q * 1 ^ p → lies-power below (t // u) (a // b) (p // q) → t // u ≼ c // 1
-capped t a m c p q pu pb pq small big h =
+capped : (a m c p q : ℕ) {b : ℕ} {t : Frac} → 0 < b → 0 < q → a * 1 ≤ m * b → m ^ p * 1 ^ q ≤ c ^ q * 1 ^ p → lies-power below t (a // b) (p // q) → t ≼ c // 1
+capped a m c p q pb pq small big h =
     power-between h (power-above c m p (zero-lt-suc 0) (zero-lt-suc 0) pq big) (over-≼ a m pb (zero-lt-suc 0) small)
 
 -- Where 1 is above a power, its base is at most 1.
@@ -43,7 +43,7 @@ module _ {a b p q : ℕ} (given : Raisable a b p q) where
       → Factored (whole 1 ⊘ T ↑ (p // q)) (powerOf a b p q)
   turned m c positive part small big few =
       let w = power-law given in
-      let cap : powerOf a b p q .lo // unit ≼ c // 1 = capped (powerOf a b p q .lo) a m c p q (zero-lt-suc _) (given .some) (omega (arith, given .part)) small big (in-words _ _ _ _ _ _ (w .encloses-below)) in
+      let cap : powerOf a b p q .lo // unit ≼ c // 1 = capped a m c p q (given .some) (omega (arith, given .part)) small big (in-words _ _ _ _ _ _ (w .encloses-below)) in
       record {
         encloses = record {
           low = inverted below (powerOf a b p q .lo // unit) (omega (arith, w .low)) positive (part above) (in-words _ _ _ _ _ _ (w .encloses-below));
