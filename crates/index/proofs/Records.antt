@@ -10,7 +10,7 @@ use Rattle.exact.specs.Ship.{Engine, Method, declared, trial, design-trial, sta
 use Rattle.exact.specs.Ranges.{Range, low, high, engines-at, method-at, ship-at, Single, Settled, most-favourable, least-favourable}
 use Rattle.exact.specs.Index.{sum-P-ME}
 use Rattle.power.specs.declared.Bounds.{Bounds}
-use Rattle.ship.specs.Accepted.{Within, Accepted}
+use Rattle.ship.specs.Accepted.{Within, Accepted, hundredths}
 use Rattle.ship.specs.Figures.{kind-of, deadweight-of, range-of, method-of, figures}
 use Rattle.ship.specs.Rules.{refusal-of}
 use Rattle.ship.specs.declared.Refusal.the-variants as refusal
@@ -19,10 +19,12 @@ use Rattle.ship.specs.declared.Trial.{Trial}
 use Rattle.ship.specs.declared.Ship.{Ship}
 use Rattle.ship.proofs.Right.{right}
 use Rattle.ship.proofs.Figured.{accepted}
-use Rattle.plant.specs.Plant.{end, at-end}
+use Rattle.plant.specs.Plant.{end, at-end, N, ice-factor}
+use Rattle.factor.specs.Factor.{factorOf}
 use Rattle.speed.specs.Speeds.{one-method, Admitted, speedOf}
-use Rattle.index.specs.Attained.{speed-of}
-use Rattle.index.proofs.Laws.{same-power, admitted}
+use Rattle.index.specs.Attained.{Sized, lowerOf, upperOf, speed-of, factor-of, lower-of, upper-of, speeds-of}
+use Rattle.index.specs.declared.SpeedBounds.{SpeedBounds}
+use Rattle.index.proofs.Laws.{same-power, admitted, sized-lower, sized-upper}
 
 -- What holds of the four methods' numbers holds of every accepted one.
 of-four : (P : ℕ → Type 0) → P 1 → P 2 → P 3 → P 4 → (m : ℕ) → Within 1 4 m → P m
@@ -79,3 +81,22 @@ module _ (s : Ship) (four : length (s .engines) ≡ 4) (none : refusal-of s ≡ 
   one-speed h =
       let e = one-end _ _ (undeclared (s .speed) (s .particulars .trial) (s .particulars .method) method-within h) (of-record .settled) in
       rw (e .0, e .1)
+
+  -- The two bounds from their parts.
+  module _ {v : SpeedBounds} {c : Bounds} {n k i : ℕ} (own : v ≡ speeds-of (figures s)) (factored : c ≡ factorOf (figures s .ship .kind) (figures s .ship))
+      (loaded : k ≡ hundredths (figures s .ship .kind) (figures s .ship .deadweight)) (iced : i ≡ ice-factor (eqb (s .particulars .ice) 1)) where
+    pub lower-sized : n ≡ N (at-end false (figures s)) → Sized n (k * i) (v .most .hi) (c .hi)
+    unfolding speeds-of factor-of figures ship-at
+    lower-sized emitted = rw (own, factored, loaded, iced, emitted) (sized-lower false of-record)
+
+    pub upper-sized : n ≡ N (at-end true (figures s)) → Sized n (k * i) (v .least .lo) (c .lo)
+    unfolding speeds-of factor-of figures ship-at
+    upper-sized emitted = rw (own, factored, loaded, iced, emitted) (sized-upper true of-record)
+
+    pub lower-named : n ≡ N (at-end false (figures s)) → lowerOf n (k * i) (v .most .hi) (c .hi) ≡ lower-of (most-favourable (figures s))
+    unfolding speeds-of factor-of figures ship-at lower-of
+    lower-named emitted = rw (own, factored, loaded, iced, emitted)
+
+    pub upper-named : n ≡ N (at-end true (figures s)) → upperOf n (k * i) (v .least .lo) (c .lo) ≡ upper-of (least-favourable (figures s))
+    unfolding speeds-of factor-of figures ship-at upper-of
+    upper-named emitted = rw (own, factored, loaded, iced, emitted)
