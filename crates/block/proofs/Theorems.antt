@@ -6,9 +6,9 @@ use mathlib.Core.Bool.{Bool, true, false}
 use mathlib.Core.List.{List, [], _∷_, _++_, append-assoc}
 use native.Mathlib.Omega.{arith}
 use borrow.Author.Tests.{eqb-true, eqb-false, ne-eqb, ltb-false}
-use lib.Dec.{eqb, ltb}
-use lib.ListN.{length, getD, take, drop, length-append, length-take, length-drop, take-append-drop}
-use lib.Seq.{take-at, drop-at, drop-drop, take-add, length-take-le, ext-getD}
+use lib.Dec.{eqb}
+use lib.ListN.{length, getD, take, drop, take-append-drop}
+use lib.Seq.{take-at, drop-at, drop-drop, length-take-le, ext-getD}
 use Rattle.exact.specs.Index.{if}
 use Rattle.fields.proofs.Numbers.{Bytes, bytes-take, bytes-drop}
 use Rattle.ship.specs.Record.{empty-ship}
@@ -21,7 +21,6 @@ use Rattle.ship.proofs.Order.{First, first-is, first-one, none}
 use Rattle.ship.proofs.Right.{after-own}
 use Rattle.block.specs.Layout.{encode, ship-in}
 use Rattle.block.specs.Answers.{length-refused, block-tests, read-refusal, loaded, read-of, no-block, write-refusal, write-of}
-use Rattle.block.specs.declared.Loaded.{Loaded}
 use Rattle.block.proofs.Codec.{encode-length}
 use Rattle.block.proofs.Answering.{write-accepted}
 use Rattle.block.proofs.Trips.{read-back, encode-back, own-none, record-accepted}
