@@ -1,12 +1,11 @@
 -- What reading and writing answer, case by case.
 -- Assumes nothing.
 use Prim.Native.Nat.{ℕ, _+_, _*_, _/_, _-_, _≤_, _<_}
-use mathlib.Core.Path.{_≡_, refl, sym, ap, _∙_}
-use mathlib.Core.List.{List, [], _∷_, _++_, append-assoc}
+use mathlib.Core.Path.{_≡_, sym, _∙_}
+use mathlib.Core.List.{List, [], _∷_, append-assoc}
 use native.Mathlib.Omega.{arith}
 use borrow.Author.Tests.{eq-eqb, ne-eqb, lt-ltb, le-ltb}
 use borrow.Rule.Slice.PartMut.{putMid, post-is}
-use lib.Dec.{eqb}
 use lib.ListN.{length, take, drop}
 use Rattle.exact.specs.Index.{if}
 use Rattle.ship.specs.Record.{empty-ship}
@@ -16,9 +15,8 @@ use Rattle.ship.specs.declared.Ship.{Ship}
 use Rattle.ship.specs.declared.Refusal.{Refusal}
 use Rattle.ship.specs.declared.Refusal.the-variants.{None, Length, NoBlock}
 use Rattle.ship.proofs.Right.{after-own}
-use Rattle.ship.proofs.Order.{none}
 use Rattle.block.specs.Layout.{encode, ship-in}
-use Rattle.block.specs.Answers.{length-refused, block-tests, read-refusal, loaded, read-of, no-block, write-refusal, write-of}
+use Rattle.block.specs.Answers.{block-tests, read-refusal, loaded, read-of, no-block, write-refusal, write-of}
 
 -- ── Reading ─────────────────────────────────────────────────────────────────────────────────
 

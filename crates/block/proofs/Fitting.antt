@@ -3,7 +3,6 @@
 use Prim.Native.Nat.{ℕ, _*_, _^_, _≤_, _<_}
 use mathlib.Core.Path.{_≡_, refl, sym, subst}
 use mathlib.Core.Bool.{Bool, true, false}
-use mathlib.Core.List.{List, [], _∷_}
 use native.Mathlib.Omega.{arith}
 use borrow.Author.Tests.{ltb-true, ltb-false}
 use lib.Dec.{eqb, ltb, lit<}
@@ -13,12 +12,11 @@ use Rattle.fields.specs.Runs.{numbers-of}
 use Rattle.fields.proofs.Runs.{Fit}
 use Rattle.ship.specs.Record.{no-engine}
 use Rattle.ship.specs.Rules.{capacity}
-use Rattle.ship.specs.declared.Consumption.{Consumption}
 use Rattle.ship.specs.declared.Deadweight.{Deadweight}
 use Rattle.ship.specs.declared.Engine.{Engine}
 use Rattle.ship.specs.declared.Ship.{Ship}
 use Rattle.ship.proofs.Tests.{limit-most}
-use Rattle.ship.proofs.Right.{Metered, Entry, Right}
+use Rattle.ship.proofs.Right.{Entry, Right}
 use Rattle.block.specs.Layout.{head, entry, entries, fields, widths}
 
 -- What fits an entry's fields.

@@ -3,3 +3,4 @@ pub mod Answering
 pub mod Fitting
 pub mod Trips
 pub mod Theorems
+pub mod Places

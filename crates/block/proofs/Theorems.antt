@@ -6,9 +6,12 @@ use mathlib.Core.Bool.{Bool, true, false}
 use mathlib.Core.List.{List, [], _∷_, _++_, append-assoc}
 use native.Mathlib.Omega.{arith}
 use borrow.Author.Tests.{eqb-true, eqb-false, ne-eqb, ltb-false}
-use lib.Dec.{eqb, ltb}
-use lib.ListN.{length, getD, take, drop, length-append, length-take, length-drop, take-append-drop}
-use lib.Seq.{take-at, drop-at, drop-drop, take-add, length-take-le, ext-getD}
+use lib.Dec.{eqb}
+use lib.ListN.{length, getD, take, drop, take-append-drop}
+use lib.Seq.{take-at, drop-at, drop-drop, length-take-le, ext-getD}
+use mir.Val.{Val}
+use denote.Shadow.{shadow}
+use denote.Struct.Declared.{row}
 use Rattle.exact.specs.Index.{if}
 use Rattle.fields.proofs.Numbers.{Bytes, bytes-take, bytes-drop}
 use Rattle.ship.specs.Record.{empty-ship}
@@ -19,9 +22,10 @@ use Rattle.ship.specs.declared.Refusal.{Refusal}
 use Rattle.ship.specs.declared.Refusal.the-variants.{None, Length, NoBlock}
 use Rattle.ship.proofs.Order.{First, first-is, first-one, none}
 use Rattle.ship.proofs.Right.{after-own}
+use Rattle.ship.proofs.Ship.{the-type}
+use Rattle.ship.proofs.Typed.{four}
 use Rattle.block.specs.Layout.{encode, ship-in}
 use Rattle.block.specs.Answers.{length-refused, block-tests, read-refusal, loaded, read-of, no-block, write-refusal, write-of}
-use Rattle.block.specs.declared.Loaded.{Loaded}
 use Rattle.block.proofs.Codec.{encode-length}
 use Rattle.block.proofs.Answering.{write-accepted}
 use Rattle.block.proofs.Trips.{read-back, encode-back, own-none, record-accepted}
@@ -51,6 +55,10 @@ refused-empty b h = rw (ne-eqb (number-of (read-refusal b)) 0 (λ e. h (none (re
 -- A ship that is accepted, written to a block and read back is the same ship.
 pub same-ship : (s : Ship) → length (s .engines) ≡ 4 → refusal-of s ≡ None → read-of (encode s) ≡ loaded None s
 same-ship = read-back
+
+-- Of a value of the type `Ship`, which has four entries, nothing else need be known.
+pub same-ship-value : (s : Ship) (vs : List Val) → shadow (row the-type .own s vs) → refusal-of s ≡ None → read-of (encode s) ≡ loaded None s
+same-ship-value s vs g = read-back s (four s vs g)
 
 -- A block that is accepted, written again, has the same bytes.
 pub same-bytes : (b : List ℕ) → Bytes b → read-refusal b ≡ None → encode (read-of b .ship) ≡ b

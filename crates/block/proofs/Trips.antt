@@ -1,8 +1,8 @@
 -- The two return trips over the table: what is written is read, and what is read is written to the same bytes.
 -- Assumes nothing.
-use Prim.Native.Nat.{ℕ, _+_, _≤_, _<_}
-use mathlib.Core.Path.{_≡_, refl, sym, ap, ap₂, _∙_}
-use mathlib.Core.Bool.{Bool, true, false, _||_, not}
+use Prim.Native.Nat.{ℕ, _+_}
+use mathlib.Core.Path.{_≡_, refl, sym, ap, _∙_}
+use mathlib.Core.Bool.{Bool, true, false, not}
 use mathlib.Core.List.{List, [], _∷_, _++_, append-assoc}
 use native.Mathlib.Omega.{arith}
 use borrow.Author.Tests.{eqb-true, eq-eqb, not-false}
@@ -28,7 +28,7 @@ use Rattle.ship.proofs.Tests.{neither, is-zero}
 use Rattle.ship.proofs.Right.{right, after-own}
 use Rattle.block.specs.Layout.{head, entry, entries, fields, widths, body, encode, numbers-in, ship-from, ship-in}
 use Rattle.block.specs.Answers.{length-refused, check-refused, layout-refused, zeros-refused, block-tests, read-refusal, loaded, read-of}
-use Rattle.block.proofs.Codec.{body-length, encode-length, take-body, first-check, second-check}
+use Rattle.block.proofs.Codec.{encode-length, take-body, first-check, second-check}
 use Rattle.block.proofs.Fitting.{fits}
 
 -- ── A record that is written ────────────────────────────────────────────────────────────────

@@ -1,5 +1,5 @@
 // Prints what reading a block answers for each piece of standard input: the refusal's number, or 0.
-// A piece is its length in two bytes, and then its bytes.
+// A piece is its length in two bytes, and then its bytes. tests/blocks.py makes the pieces and what is to be printed.
 use libc::STDIN_FILENO;
 use libc::STDOUT_FILENO;
 ghost use Prim.Native.Nat.{_<_};

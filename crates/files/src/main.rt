@@ -1,6 +1,7 @@
 // Prints what writing a ship into a file answers for each case of standard input: the refusal's number, or 0, and the two check
 // sums of the file's bytes as they then are. A case is the file's length in two bytes, a block number in eight, the block of the
 // ship, and the file's bytes. A block that is refused has the empty record, and that is then the ship.
+// tests/blocks.py makes the cases and what is to be printed.
 use fields::check_sums;
 use fields::number_at;
 use libc::STDIN_FILENO;

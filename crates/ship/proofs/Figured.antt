@@ -1,20 +1,21 @@
 -- A record with no refusal has figures that the calculations can count on.
 -- Assumes nothing.
-use Prim.Native.Nat.{ℕ, zero, suc, _+_, _*_, min, _≤_, _<_}
+use Prim.Native.Nat.{ℕ, zero, suc, _*_, _≤_, _<_}
 use mathlib.Core.Path.{_≡_, refl, sym, ap, _∙_}
 use mathlib.Core.Bool.{Bool, true, false, _&&_, not}
-use mathlib.Core.List.{List, [], _∷_, map}
+use mathlib.Core.List.{List, [], _∷_}
 use native.Mathlib.Omega.{arith}
-use borrow.Author.Tests.{eqb-true, eqb-false, ne-eqb}
+use borrow.Author.Tests.{eqb-true, eqb-false}
 use lib.Dec.{eqb, lit≤, eqb·suc-zero}
-use lib.ListN.{length, getD, take}
+use lib.ListN.{length, getD}
 use Rattle.exact.specs.Ship as exact
 use Rattle.exact.specs.Ranges.{Range, engines-at, low, high, Single, Settled}
-use Rattle.exact.specs.Index.{if, container?, P-ME, sum-P-ME}
+use Rattle.exact.specs.Formula.{Frac, _//_, _≼_, _·_, Side, below, above, lies, at-most, at-least, _⊗_, bounds, by-lit, by-product}
+use Rattle.exact.specs.Index.{if, whole, percent, container?, Capacity, P-ME, sum-P-ME}
 use Rattle.ship.specs.Record.{no-engine}
 use Rattle.ship.specs.Rules.{nonzero, outside, capacity, refusal-of}
 use Rattle.ship.specs.Figures.{kind-of, fuel-of, range-of, deadweight-of, uses-of, engine-of, mains, auxiliary-of, method-of, figures}
-use Rattle.ship.specs.Accepted.{Within, Ends, Limited, no-limiter, limiter, Measured, Rated, Each, no-more, one-more, Supplied, hundredths, Near, By-design-draught, Tried, Sailed, Accepted}
+use Rattle.ship.specs.Accepted.{Within, Ends, Limited, no-limiter, limiter, Measured, Rated, Each, no-more, one-more, Supplied, hundredths, Near, By-design-draught, Sailed, Accepted}
 use Rattle.ship.specs.declared.Deadweight.{Deadweight}
 use Rattle.ship.specs.declared.Consumption.{Consumption}
 use Rattle.ship.specs.declared.Engine.{Engine}
@@ -23,8 +24,8 @@ use Rattle.ship.specs.declared.Trial.{Trial}
 use Rattle.ship.specs.declared.Ship.{Ship}
 use Rattle.ship.specs.declared.Refusal.the-variants as refusal
 use Rattle.ship.proofs.Sums.{power-limited, power-free}
-use Rattle.ship.proofs.Tests.{not-with, inside, Sized}
-use Rattle.ship.proofs.Right.{Metered, Settles, Entry, Of-type, Speeded, Trialled, Right, right}
+use Rattle.ship.proofs.Tests.{not-with, inside}
+use Rattle.ship.proofs.Right.{Metered, Entry, Of-type, right}
 
 -- ── Types by number ─────────────────────────────────────────────────────────────────────────
 
@@ -55,6 +56,27 @@ kind-back = of-seven (λ k. number-of-kind (kind-of k) ≡ k) refl refl refl ref
 
 pub capacity-same : (d : Deadweight) (k : ℕ) → Within 1 7 k → capacity k d ≡ hundredths (kind-of k) (deadweight-of d)
 capacity-same d = of-seven (λ k. capacity k d ≡ hundredths (kind-of k) (deadweight-of d)) refl refl refl refl refl refl refl
+
+-- Rule 15's Capacity is the formula's: both sides of it, so it is its value.
+pub capacity-exact : (side : Side) (k : exact.Kind) (d : exact.Deadweight) → bounds side (Capacity k d) ((hundredths k d) // 100)
+unfolding Capacity
+capacity-exact side k d = go (container? k)
+  where
+    at : (side : Side) (t x : Frac) → t .num * x .den ≡ x .num * t .den → lies side t x
+    at below t x e =
+        let k : t ≼ x = record { cross = omega arith } in
+        at-most k
+    at above t x e =
+        let k : x ≼ t = record { cross = omega arith } in
+        at-least k
+
+    go : (t : Bool) → bounds side (if t (percent 70 ⊗ whole (d .tonnes)) (whole (d .tonnes))) ((if t (70 * d .tonnes) (100 * d .tonnes)) // 100)
+    go true =
+        by-product
+        (by-lit (at side (70 // 100) (70 // 100) refl))
+        (by-lit (at side (d .tonnes // 1) (d .tonnes // 1) refl))
+        (at side ((70 * d .tonnes) // 100) ((70 // 100) · (d .tonnes // 1)) (omega arith))
+    go false = by-lit (at side ((100 * d .tonnes) // 100) (d .tonnes // 1) (omega arith))
 
 draught : (k : ℕ) → Within 1 7 k → not (eqb k 1) && not (eqb k 3) && not (eqb k 4) ≡ false → By-design-draught (kind-of k)
 draught =

@@ -1,30 +1,29 @@
 -- What the numbers of a record with no refusal are.
 -- Assumes nothing.
-use Prim.Native.Nat.{ℕ, zero, suc, _+_, _*_, _≤_, _<_}
-use mathlib.Core.Path.{_≡_, refl, sym, ap, _∙_}
+use Prim.Native.Nat.{ℕ, _+_, _*_, _≤_, _<_}
+use mathlib.Core.Path.{_≡_, refl, ap, _∙_}
 use mathlib.Core.Bool.{Bool, true, false, _&&_, _||_, not}
 use mathlib.Core.List.{List, _++_}
 use native.Mathlib.Omega.{arith}
 use borrow.Author.Tests.{ltb-false, eq-eqb, ne-eqb, eqb-true, eqb-false, le-leb, not-false}
-use lib.Dec.{eqb, ltb, leb}
+use lib.Dec.{eqb, ltb}
 use lib.ListN.{getD}
-use Rattle.exact.specs.Index.{if, sum-P-ME}
+use Rattle.exact.specs.Index.{sum-P-ME}
 use Rattle.exact.specs.Ranges.{engines-at, low}
 use Rattle.ship.specs.Record.{no-engine}
 use Rattle.ship.specs.Refusals.{first-of, or-else}
 use Rattle.ship.specs.Figures.{mains}
-use Rattle.ship.specs.Rules.{outside, between, nonzero, gross-refused, volume-refused, any-used, any-unused, engine-refused, engines-refused, uses-refused, consumption-refused, auxiliary-refused, speed-refused, crossed, range-refused, engine-crossed, ranges-refused, capacity, apart, trial-refused, occupied, tests, refusal-of}
+use Rattle.ship.specs.Rules.{outside, between, nonzero, any-used, uses-refused, auxiliary-refused, speed-refused, crossed, range-refused, engine-crossed, capacity, apart, trial-refused, occupied, tests, refusal-of}
 use Rattle.ship.specs.Accepted.{Within, Near}
 use Rattle.ship.specs.declared.Range.{Range}
 use Rattle.ship.specs.declared.Consumption.{Consumption}
 use Rattle.ship.specs.declared.Engine.{Engine}
-use Rattle.ship.specs.declared.Trial.{Trial}
 use Rattle.ship.specs.declared.Particulars.{Particulars}
 use Rattle.ship.specs.declared.Ship.{Ship}
 use Rattle.ship.specs.declared.Refusal.{Refusal}
 use Rattle.ship.specs.declared.Refusal.the-variants as refusal
 use Rattle.ship.proofs.Order.{passed, first-append, onward}
-use Rattle.ship.proofs.Tests.{neither, not-with, inside, is-zero, each-used, each-unused, engines-inside, Sized, engine-inside, limit-most}
+use Rattle.ship.proofs.Tests.{neither, not-with, inside, is-zero, each-used, each-unused, engines-inside, Sized, engine-inside}
 
 -- No refusal, so no test holds.
 pub holds : (s : Ship) → refusal-of s ≡ refusal.None → (i : ℕ) → getD (tests s) i (false, refusal.None) .0 ≡ false

@@ -2,30 +2,11 @@
 -- Assumes nothing.
 use Prim.Native.Nat.{ℕ}
 use mathlib.Core.List.{List, [], _∷_}
-use mathlib.Core.Bool.{Bool, true, false}
+use mathlib.Core.Bool.{Bool}
 use lib.Dec.{eqb}
 use Rattle.exact.specs.Index.{if}
 use Rattle.ship.specs.declared.Refusal.{Refusal}
-use Rattle.ship.specs.declared.Refusal.the-variants.{
-  None,
-  Length,
-  Check,
-  Layout,
-  ImoNumber,
-  ShipType,
-  Deadweight,
-  GrossTonnage,
-  CargoVolume,
-  Engines,
-  Consumption,
-  AuxiliaryPower,
-  IceClass,
-  Speed,
-  Ranges,
-  Trial,
-  Unused,
-  NoBlock,
-}
+use Rattle.ship.specs.declared.Refusal.the-variants.{None, Length, Check, Layout, ImoNumber, ShipType, Deadweight, GrossTonnage, CargoVolume, Engines, Consumption, AuxiliaryPower, IceClass, Speed, Ranges, Trial, Unused, NoBlock}
 
 -- The document's number of each refusal; 0 is none.
 abbrev pub number-of : Refusal → ℕ

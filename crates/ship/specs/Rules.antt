@@ -2,7 +2,7 @@
 -- Assumes nothing.
 use Prim.Native.Nat.{ℕ, _+_, _*_, _/_, _%_}
 use mathlib.Core.List.{List, [], _∷_}
-use mathlib.Core.Bool.{Bool, true, false, _&&_, _||_, not}
+use mathlib.Core.Bool.{Bool, _&&_, _||_, not}
 use lib.ListN.{getD}
 use lib.Dec.{eqb, ltb, leb}
 use Rattle.exact.specs.Index.{if, sum-P-ME}
@@ -154,6 +154,9 @@ occupied e =
     || nonzero (e .uses .fuel)
     || nonzero (e .uses .source)
 
+abbrev pub unused-refused : ℕ → List Engine → Bool
+unused-refused used es = any-unused occupied used es
+
 -- ── In order of checking ────────────────────────────────────────────────────────────────────
 
 unfoldable pub tests : Ship → List (Bool × Refusal)
@@ -172,7 +175,7 @@ tests s =
     ∷ (speed-refused (p .method) (p .kind) (s .speed), refusal.Speed)
     ∷ (ranges-refused s, refusal.Ranges)
     ∷ (trial-refused p es, refusal.Trial)
-    ∷ (any-unused occupied (p .used) es, refusal.Unused)
+    ∷ (unused-refused (p .used) es, refusal.Unused)
     ∷ []
 
 -- The first refusal of a record, or none.

@@ -11,12 +11,12 @@ use crate::number;
 use crate::power::capacity_of;
 use crate::power::power_sum;
 ghost use mathlib.Core.Path.{_≡_};
-ghost use mathlib.Core.Bool.{_||_, false};
-ghost use Prim.Native.Nat.{ℕ, _≤_, _<_};
+ghost use mathlib.Core.Bool.{false};
+ghost use Prim.Native.Nat.{_≤_};
 ghost use lib.ListN.{take, drop};
 ghost use Rattle.exact.specs.Index.{if};
 ghost use Rattle.ship.specs.Refusals.{or-else, first-of};
-ghost use Rattle.ship.specs.Rules.{imo-refused, type-refused, deadweight-refused, gross-refused, volume-refused, any-used, any-unused, engine-refused, engines-refused, uses-refused, consumption-refused, auxiliary-refused, ice-refused, speed-refused, range-refused, crossed, engine-crossed, ranges-refused, apart, trial-refused, occupied, tests, refusal-of};
+ghost use Rattle.ship.specs.Rules.{imo-refused, type-refused, deadweight-refused, gross-refused, volume-refused, any-used, engine-refused, engines-refused, uses-refused, consumption-refused, auxiliary-refused, ice-refused, speed-refused, range-refused, engine-crossed, ranges-refused, apart, trial-refused, occupied, unused-refused, tests, refusal-of};
 
 // The refusal where its rule is broken, else what the later rules say.
 pub fn first(broken: bool, refusal: Refusal, rest: Refusal) -> Refusal
@@ -32,6 +32,7 @@ pub fn or(refusal: Refusal, rest: Refusal) -> Refusal
     if number(refusal) == 0 { rest } else { refusal }
 }
 
+// Rule 4.
 fn imo_broken(n: u64) -> bool
     ensures { λ r. ⌜ r ≡ imo-refused n ⌝ }
 {
@@ -44,30 +45,35 @@ fn imo_broken(n: u64) -> bool
     ((n < 1000000) | (9999999 < n)) | (sum % 10 != n % 10)
 }
 
+// Rule 5.
 fn type_broken(kind: u64) -> bool
     ensures { λ r. ⌜ r ≡ type-refused kind ⌝ }
 {
     (kind < 1) | (7 < kind)
 }
 
+// Rule 6.
 fn deadweight_broken(d: Deadweight) -> bool
     ensures { λ r. ⌜ r ≡ deadweight-refused d ⌝ }
 {
     (d.tonnes < 100) | (600000 < d.tonnes)
 }
 
+// Rule 7.
 fn gross_broken(kind: u64, g: GrossTonnage) -> bool
     ensures { λ r. ⌜ r ≡ gross-refused kind g ⌝ }
 {
     (kind == 7) & ((g.gt < 100) | (400000 < g.gt)) | (kind != 7) & (g.gt != 0)
 }
 
+// Rule 8.
 fn volume_broken(kind: u64, volume: u64) -> bool
     ensures { λ r. ⌜ r ≡ volume-refused kind volume ⌝ }
 {
     (kind == 1) & ((volume < 100) | (1000000 < volume)) | (kind != 1) & (volume != 0)
 }
 
+// Rule 9, of one engine, and of all.
 fn engine_broken(e: Engine) -> bool
     ensures { λ r. ⌜ r ≡ engine-refused e ⌝ }
 {
@@ -90,6 +96,7 @@ fn engines_broken(used: u64, es: [Engine; 4]) -> bool
     ((used < 1) | (4 < used)) | any
 }
 
+// Rule 10, of one consumption, and of all.
 fn uses_broken(c: Consumption) -> bool
     ensures { λ r. ⌜ r ≡ uses-refused c ⌝ }
 {
@@ -122,6 +129,7 @@ fn consumption_broken(auxiliary: Consumption, used: u64, es: [Engine; 4]) -> boo
     uses_broken(auxiliary) | any
 }
 
+// Rule 11.
 fn auxiliary_broken(method: u64, power: u64) -> bool
     ensures { λ r. ⌜ r ≡ auxiliary-refused method power ⌝ }
 {
@@ -130,12 +138,14 @@ fn auxiliary_broken(method: u64, power: u64) -> bool
         | (method == 2) & ((power < 1) | (50000 < power))
 }
 
+// Rule 12.
 fn ice_broken(ice: u64) -> bool
     ensures { λ r. ⌜ r ≡ ice-refused ice ⌝ }
 {
     1 < ice
 }
 
+// Rule 13.
 fn speed_broken(method: u64, kind: u64, speed: Range) -> bool
     ensures { λ r. ⌜ r ≡ speed-refused method kind speed ⌝ }
 {
@@ -147,6 +157,7 @@ fn speed_broken(method: u64, kind: u64, speed: Range) -> bool
         | (method == 4) & ((speed.low != 0) | (speed.high != 0))
 }
 
+// Rule 14, of a range of speed or MCR, of one engine, of the engines, and of all.
 fn range_broken(method: u64, r: Range) -> bool
     ensures { λ q. ⌜ q ≡ range-refused method r ⌝ }
 {
@@ -193,31 +204,6 @@ fn is_apart(whole: u64, hundredths: u64) -> bool
     (hundredths / 20 < whole) | (whole < (hundredths + 499) / 500)
 }
 
-fn is_occupied(e: Engine) -> bool
-    ensures { λ r. ⌜ r ≡ occupied e ⌝ }
-{
-    (e.mcr.low != 0)
-        | (e.mcr.high != 0)
-        | (e.limit != 0)
-        | (e.uses.sfc.low != 0)
-        | (e.uses.sfc.high != 0)
-        | (e.uses.fuel != 0)
-        | (e.uses.source != 0)
-}
-
-fn unused_broken(used: u64, es: [Engine; 4]) -> bool
-    ensures { λ r. ⌜ r ≡ any-unused occupied used es ⌝ }
-{
-    let a = es[0];
-    let b = es[1];
-    let c = es[2];
-    let d = es[3];
-    (used <= 0) & is_occupied(a)
-        | (used <= 1) & is_occupied(b)
-        | (used <= 2) & is_occupied(c)
-        | (used <= 3) & is_occupied(d)
-}
-
 // Rule 15, of a record whose engines and deadweight broke none.
 fn trial_broken(p: Particulars, es: [Engine; 4]) -> bool
     requires { ⌜ (deadweight-refused (p .deadweight) ≡ false) × (engines-refused (p .used) es ≡ false) ⌝ }
@@ -233,6 +219,32 @@ fn trial_broken(p: Particulars, es: [Engine; 4]) -> bool
         | ((method == 2) | (method == 3)) & (((power < 1) | (600000 < power)) | power_apart)
         | (method == 2) & (load != 0)
         | (method == 3) & ((load == 0) | load_apart)
+}
+
+// Rule 16, of one entry, and of the entries.
+fn is_occupied(e: Engine) -> bool
+    ensures { λ r. ⌜ r ≡ occupied e ⌝ }
+{
+    (e.mcr.low != 0)
+        | (e.mcr.high != 0)
+        | (e.limit != 0)
+        | (e.uses.sfc.low != 0)
+        | (e.uses.sfc.high != 0)
+        | (e.uses.fuel != 0)
+        | (e.uses.source != 0)
+}
+
+fn unused_broken(used: u64, es: [Engine; 4]) -> bool
+    ensures { λ r. ⌜ r ≡ unused-refused used es ⌝ }
+{
+    let a = es[0];
+    let b = es[1];
+    let c = es[2];
+    let d = es[3];
+    (used <= 0) & is_occupied(a)
+        | (used <= 1) & is_occupied(b)
+        | (used <= 2) & is_occupied(c)
+        | (used <= 3) & is_occupied(d)
 }
 
 // Rules 4 to 8.

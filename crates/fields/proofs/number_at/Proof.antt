@@ -1,7 +1,7 @@
 -- `fields::number_at` meets its contract.
 -- Assumes nothing.
 use Prim.Native.Nat.{_+_, _-_, _≤_, _<_, _^_}
-use mathlib.Core.Path.{_≡_, sym, _∙_}
+use mathlib.Core.Path.{_≡_, sym}
 use native.Mathlib.Nat.{sub-self}
 use native.Mathlib.Omega.{arith}
 use lib.ListN.{length}
