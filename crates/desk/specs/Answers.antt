@@ -1,0 +1,38 @@
+-- The desk's answers, and this paper's number and values for each case.
+-- Assumes nothing.
+use Prim.Native.Nat.{ℕ}
+use mathlib.Core.List.{List}
+use lib.Dec.{eqb}
+use Rattle.exact.specs.Index.{if}
+use Rattle.ship.specs.Refusals.{number-of}
+use Rattle.ship.specs.Rules.{refusal-of}
+use Rattle.ship.specs.Figures.{figures}
+use Rattle.ship.specs.declared.Refusal.{Refusal}
+use Rattle.ship.specs.declared.Ship.{Ship}
+use Rattle.block.specs.Answers.{read-refusal, read-of}
+use Rattle.index.specs.Attained.{index-of}
+use Rattle.desk.specs.declared.Answer.{Answer}
+use Rattle.desk.specs.declared.Answer.the-variants.{Bounds, Refused}
+
+-- A record's answer where its first refusal is r: the refusal, or where that is none the bounds.
+abbrev pub answer-by : Refusal → Ship → Answer
+answer-by r s = if (eqb (number-of r) 0) (Bounds (index-of (figures s))) (Refused r)
+
+unfoldable pub answer-of : Ship → Answer
+answer-of s = answer-by (refusal-of s) s
+
+unfoldable pub answer-of-block : List ℕ → Answer
+answer-of-block b = answer-by (read-refusal b) (read-of b .ship)
+
+-- The refusal's number, 0 where there is none; the bounds, which a refusal does not have.
+abbrev pub number-in : Answer → ℕ
+number-in (Bounds i) = 0
+number-in (Refused r) = number-of r
+
+abbrev pub lower-in : Answer → ℕ
+lower-in (Bounds i) = i .lower
+lower-in (Refused r) = 0
+
+abbrev pub upper-in : Answer → ℕ
+upper-in (Bounds i) = i .upper
+upper-in (Refused r) = 0
