@@ -7,7 +7,7 @@ use mathlib.Core.Path.{_≡_, refl, ap₂}
 use Rattle.exact.specs.Formula.{Frac, _//_, _≼_, Formula, lit, Enclosed}
 use Rattle.exact.specs.Ship.{Deadweight, Kind, Consumption, recorded, neither, Engine, Auxiliary, rule, table, Method, declared, trial, design-trial, statistical, Particulars, Figures}
 use Rattle.exact.specs.Index.{emission, P-ME, sum-P-ME, main-emission, rated, by-rule, P-AE, V-ref, speed, emissions, transport, index}
-use Rattle.exact.specs.Ranges.{Range, within, Uses, same-fuel, no-source, Engines, no-more, one-more, Speeds, method-1, method-2, method-3, method-4, Alike, alike, Inside, narrows, Narrowed, uses-at, engines-at, method-at, ship-at, low, high, most-favourable, least-favourable, Single, Settled}
+use Rattle.exact.specs.Ranges.{Range, within, Uses, same-fuel, no-source, Engines, no-more, one-more, Speeds, method-1, method-2, method-3, method-4, Alike, alike, Inside, narrows, Narrowed, both-ends, Stands-for, uses-at, engines-at, method-at, ship-at, low, high, most-favourable, least-favourable, Single, Settled}
 use Rattle.exact.proofs.Order.{_⊑_, ⊑-refl, ⊑-lit, ⊑-sum, ⊑-product, ⊑-quotient, enclosed-between}
 use Rattle.exact.proofs.Rules.{by-rule-min}
 
@@ -171,3 +171,32 @@ narrowed-most n = above-most (ship-inside low high low-inside high-inside n)
 
 pub narrowed-least : {r r' : Figures Range} → Narrowed r r' → Settled (r .method) (r .engines) → index (least-favourable r') ⊑ index (least-favourable r)
 narrowed-least n = below-least (ship-inside high low high-inside low-inside n)
+
+-- Without ranges the ship at any end is the one that the record stands for.
+module _ (p q : Range → ℕ) (hp : (r : Range) (n : ℕ) → both-ends r n → p r ≡ n) (hq : (r : Range) (n : ℕ) → both-ends r n → q r ≡ n) where
+  same-uses : {c : Consumption Range} {c' : Consumption ℕ} → Uses both-ends c c' → uses-at p c ≡ c'
+  unfolding uses-at
+  same-uses (same-fuel h) = rw (hp _ _ h)
+  same-uses no-source = refl
+
+  same-engines : {es : List (Engine Range)} {es' : List (Engine ℕ)} → Engines both-ends es es' → engines-at p es ≡ es'
+  unfolding engines-at
+  same-engines no-more = refl
+  same-engines (one-more h c r) = rw (hp _ _ h, same-uses c, same-engines r)
+
+  same-method : {m : Method Range} {m' : Method ℕ} → Speeds both-ends m m' → method-at q m ≡ m'
+  unfolding method-at
+  same-method (method-1 h) = rw (hq _ _ h)
+  same-method (method-2 h) = rw (hq _ _ h)
+  same-method (method-3 h) = rw (hq _ _ h)
+  same-method method-4 = refl
+
+  same-ship : {r : Figures Range} {f : Figures ℕ} → Stands-for r f → ship-at p q r ≡ f
+  unfolding ship-at
+  same-ship (alike e c v) = rw (same-engines e, same-uses c, same-method v)
+
+pub stands-most : {r : Figures Range} {f : Figures ℕ} → Stands-for r f → most-favourable r ≡ f
+stands-most = same-ship low high (λ r n h. h .0) (λ r n h. h .1)
+
+pub stands-least : {r : Figures Range} {f : Figures ℕ} → Stands-for r f → least-favourable r ≡ f
+stands-least = same-ship high low (λ r n h. h .1) (λ r n h. h .0)

@@ -47,6 +47,13 @@ narrows r r' = (r .low ≤ r' .low) × (r' .low ≤ r' .high) × (r' .high ≤ r
 abbrev pub Narrowed : Figures Range → Figures Range → Type 0
 Narrowed = Alike narrows narrows
 
+-- Without ranges a record stands for one ship: both ends of each range are its number.
+abbrev pub both-ends : Range → ℕ → Type 0
+both-ends r n = (r .low ≡ n) × (r .high ≡ n)
+
+abbrev pub Stands-for : Figures Range → Figures ℕ → Type 0
+Stands-for = Alike both-ends both-ends
+
 -- One end of each range: p of the consumptions and rated powers, q of the speed.
 unfoldable pub uses-at : (Range → ℕ) → Consumption Range → Consumption ℕ
 uses-at p (recorded n fuel) = recorded (p n) fuel

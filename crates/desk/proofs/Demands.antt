@@ -1,0 +1,161 @@
+-- The three demands. A surveyor who wants to know what the desk promises reads the statements of this file; `bounds` and
+-- `bounds_of_block` answer `answer-of` and `answer-of-block`, for every record and every slice of bytes.
+-- Assumes nothing.
+use Prim.Native.Nat.{ℕ, _+_, _*_, _^_, _≤_, _<_}
+use mathlib.Core.Path.{_≡_, refl, sym, ap, _∙_}
+use mathlib.Core.List.{List, _∷_}
+use native.Mathlib.Nat.{le-trans, lt-of-le-of-lt}
+use native.Mathlib.Omega.{arith}
+use lib.ListN.{length}
+use borrow.Author.Tests.{ne-eqb}
+use Rattle.exact.specs.Formula.{_//_, _≼_, below, above, bounds, Enclosed}
+use Rattle.exact.specs.Ship.{declared, Figures}
+use Rattle.exact.specs.Ranges.{Range, Inside, Narrowed, Stands-for, most-favourable, least-favourable}
+use Rattle.exact.specs.Index.{whole, f-c, speed, index}
+use Rattle.exact.proofs.Formulas.{consistent}
+use Rattle.exact.proofs.Favour.{stands-most, stands-least, inside-enclosed}
+use Rattle.ship.specs.Figures.{figures}
+use Rattle.ship.specs.Refusals.{number-of}
+use Rattle.ship.specs.Rules.{tests, refusal-of}
+use Rattle.ship.specs.Accepted.{Accepted}
+use Rattle.ship.specs.declared.Refusal.{Refusal}
+use Rattle.ship.specs.declared.Refusal.the-variants.{None, Length}
+use Rattle.ship.specs.declared.Ship.{Ship}
+use Rattle.ship.proofs.Order.{First, first-is, none}
+use Rattle.ship.proofs.Figured.{accepted}
+use Rattle.fields.proofs.Numbers.{Bytes}
+use Rattle.block.specs.Layout.{encode, ship-in}
+use Rattle.block.specs.Answers.{length-refused, block-tests, read-refusal, read-of, loaded, write-refusal, write-of}
+use Rattle.block.proofs.Theorems as block
+use Rattle.speed.specs.Speeds.{Speed}
+use Rattle.index.specs.Attained.{speed-of, lower-of, upper-of, index-of}
+use Rattle.index.proofs.Laws as law
+use Rattle.desk.specs.Answers.{answer-by, answer-of, answer-of-block, number-in, lower-in, upper-in}
+use Rattle.desk.specs.declared.Answer.{Answer}
+use Rattle.desk.specs.declared.Answer.the-variants.{Bounds, Refused}
+use Rattle.desk.proofs.Answering.{refused, bounded, block-accepted}
+use mathlib.Core.Bool.{true, false}
+
+-- ── Demand 1: every input has exactly one answer, by the first rule broken ──────────────────
+
+-- A record's refusal is that of the first of its tests, in document 01's order, that holds; or none.
+pub record-first : (s : Ship) → First (tests s) None (refusal-of s)
+unfolding refusal-of
+record-first s = first-is (tests s) None
+
+-- With none the answer is the two bounds, and with any other it is that refusal and no bounds.
+pub record-bounded : (s : Ship) → refusal-of s ≡ None → answer-of s ≡ Bounds (index-of (figures s))
+unfolding answer-of
+record-bounded s e = sym (bounded s e refl)
+
+pub record-refused : (s : Ship) → (refusal-of s ≡ None → ⊥) → answer-of s ≡ Refused (refusal-of s)
+unfolding answer-of
+record-refused s h = sym (refused s refl (λ e. h (none _ e)))
+
+-- The same of bytes, of every length.
+pub block-first : (b : List ℕ) → First ((length-refused b, Length) ∷ block-tests b (ship-in b)) None (read-refusal b)
+unfolding read-refusal
+block-first b = first-is _ None
+
+pub block-bounded : (b : List ℕ) → read-refusal b ≡ None → answer-of-block b ≡ Bounds (index-of (figures (read-of b .ship)))
+unfolding answer-of-block
+block-bounded b e = sym (bounded _ e refl)
+
+pub block-refused : (b : List ℕ) → (read-refusal b ≡ None → ⊥) → answer-of-block b ≡ Refused (read-refusal b)
+unfolding answer-of-block
+block-refused b h = sym (refused _ refl (λ e. h (none _ e)))
+
+-- An accepted block is answered as its record is.
+pub block-as-record : (b : List ℕ) → read-refusal b ≡ None → answer-of-block b ≡ answer-of (read-of b .ship)
+block-as-record b e = block-bounded b e ∙ sym (record-bounded _ (block-accepted b e))
+
+-- A refused write leaves the lent file as it stood.
+pub file-kept : (f : List ℕ) (n : ℕ) (s : Ship) → (write-refusal f n s ≡ None → ⊥) → write-of f n s ≡ f
+unfolding write-of
+file-kept f n s h = rw (ne-eqb (number-of (write-refusal f n s)) 0 (λ e. h (none _ e)))
+
+-- ── An accepted record ──────────────────────────────────────────────────────────────────────
+
+-- Four engine entries, as the record's type has them, and no refusal.
+pub record Taken (s : Ship) : Type 0 where
+  pub entries : length (s .engines) ≡ 4
+  pub none : refusal-of s ≡ None
+
+ranges-kept : {s : Ship} → Taken s → Accepted (figures s)
+ranges-kept {s} t = accepted s (t .entries) (t .none)
+
+-- Its two bounds, in millionths of a gram of CO2 per tonne and nautical mile.
+abbrev pub lower : Ship → ℕ
+lower s = lower-in (answer-of s)
+
+abbrev pub upper : Ship → ℕ
+upper s = upper-in (answer-of s)
+
+lower-is : {s : Ship} → Taken s → lower s ≡ lower-of (most-favourable (figures s))
+unfolding index-of
+lower-is {s} t = rw (record-bounded s (t .none))
+
+upper-is : {s : Ship} → Taken s → upper s ≡ upper-of (least-favourable (figures s))
+unfolding index-of
+upper-is {s} t = rw (record-bounded s (t .none))
+
+-- ── Demand 2: without ranges ────────────────────────────────────────────────────────────────
+
+-- The record s stands for the one ship f.
+module _ {s : Ship} {f : Figures ℕ} (t : Taken s) (one : Stands-for (figures s) f) where
+  -- The bounds enclose the exact index of MEPC.333(76), fractional powers included.
+  pub encloses : Enclosed (index f) (lower s // 1000000) (upper s // 1000000)
+  encloses =
+      rw (lower-is t, upper-is t, stands-most one, stands-least one)
+      (record {
+        low = (rw (stands-most one) at (law.encloses false (ranges-kept t))) .low;
+        high = (rw (stands-least one) at (law.encloses true (ranges-kept t))) .high;
+      })
+
+  -- They differ by at most a hundred-thousandth of the upper one plus two millionths.
+  pub close : upper s * 100000 ≤ lower s * 100000 + upper s + 200000
+  close = rw (lower-is t, upper-is t, stands-most one, stands-least one) (rw (stands-most one) at (law.near false (ranges-kept t)))
+
+  -- With a declared speed and f_c 1 they are the exact index rounded down and up.
+  module _ {v : Range} (method : figures s .method ≡ declared v) (full : f-c (figures s .ship .kind) (figures s .ship) ≡ whole 1) where
+    pub rounded-down : (n : ℕ) → bounds below (index f) (n // 1000000) → n ≤ lower s
+    rounded-down n h = rw (lower-is t) (law.lower-greatest false (ranges-kept t) method full n (rw (stands-most one) h))
+
+    pub rounded-up : (n : ℕ) → bounds above (index f) (n // 1000000) → upper s ≤ n
+    rounded-up n h = rw (upper-is t) (law.upper-least true (ranges-kept t) method full n (rw (stands-least one) h))
+
+  -- The speed is enclosed in millionths of a knot, with a difference of at most a millionth of the upper one plus two.
+  pub speed-enclosed : Speed (speed f) (speed-of f)
+  speed-enclosed = rw (stands-most one) at (law.speed-is false (ranges-kept t))
+
+-- Both bounds are below 2^53.
+pub bounds-small : {s : Ship} → Taken s → upper s < 2 ^ 53
+bounds-small t = rw (upper-is t) (law.small true (ranges-kept t))
+
+-- A ship written to a block reads back as the same ship; an accepted block written again has the same bytes.
+pub ship-back : {s : Ship} → Taken s → read-of (encode s) ≡ loaded None s
+ship-back {s} t = block.same-ship s (t .entries) (t .none)
+
+pub bytes-back : (b : List ℕ) → Bytes b → read-refusal b ≡ None → encode (read-of b .ship) ≡ b
+bytes-back = block.same-bytes
+
+-- ── Demand 3: with ranges ───────────────────────────────────────────────────────────────────
+
+-- Every ship inside the ranges has its exact index between the bounds.
+pub inside : {s : Ship} {f : Figures ℕ} → Taken s → Inside (figures s) f → Enclosed (index f) (lower s // 1000000) (upper s // 1000000)
+inside t i =
+    rw (lower-is t, upper-is t)
+    (inside-enclosed i (ranges-kept t .settled) (law.encloses false (ranges-kept t)) (law.encloses true (ranges-kept t)))
+
+-- The lower bound is the one of the most favourable ship, the upper bound of the least favourable.
+pub lower-of-most : {s s' : Ship} → Taken s → Taken s' → Stands-for (figures s') (most-favourable (figures s)) → lower s' ≡ lower s
+lower-of-most t t' one = lower-is t' ∙ ap lower-of (stands-most one) ∙ sym (lower-is t)
+
+pub upper-of-least : {s s' : Ship} → Taken s → Taken s' → Stands-for (figures s') (least-favourable (figures s)) → upper s' ≡ upper s
+upper-of-least t t' one = upper-is t' ∙ ap upper-of (stands-least one) ∙ sym (upper-is t)
+
+-- Narrowing moves neither outward.
+pub narrowing : {s s' : Ship} → Taken s → Taken s' → Narrowed (figures s) (figures s') → (lower s ≤ lower s') × (upper s' ≤ upper s)
+narrowing t t' n =
+    rw (lower-is t, lower-is t', upper-is t, upper-is t')
+    (law.narrowed-lower (ranges-kept t) (ranges-kept t') n, law.narrowed-upper (ranges-kept t) (ranges-kept t') n)
