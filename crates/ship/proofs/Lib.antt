@@ -4,4 +4,4 @@ pub mod Order
 pub mod Right
 pub mod Figured
 pub mod Typed
-mod Vectors
+pub mod Vectors

@@ -1,5 +1,6 @@
 -- Ship S of the document has no refusal, so the rules don't refuse every ship.
 -- Assumes nothing.
+use Prim.Native.Nat.{ℕ}
 use mathlib.Core.Path.{_≡_, refl}
 use mathlib.Core.List.{[], _∷_}
 use Rattle.exact.specs.Index.{P-ME, sum-P-ME}
@@ -9,12 +10,22 @@ use Rattle.ship.specs.Refusals.{first-of}
 use Rattle.ship.specs.Figures.{uses-of, engine-of, mains, figures}
 use Rattle.ship.specs.Rules.{trial-refused, tests, refusal-of}
 use Rattle.ship.specs.Accepted.{Accepted}
+use Rattle.ship.specs.declared.Range.{Range}
+use Rattle.ship.specs.declared.Consumption.{Consumption}
 use Rattle.ship.specs.declared.Ship.{Ship}
 use Rattle.ship.specs.declared.Refusal.the-variants.{None}
 use Rattle.ship.proofs.Figured.{accepted}
 
-abbrev ship-S : Ship
-ship-S =
+-- A range of one figure.
+abbrev pub just : ℕ → Range
+just n = record { low = n; high = n }
+
+abbrev pub reported : Range → ℕ → Consumption
+reported sfc fuel = record { sfc = sfc; fuel = fuel; source = 1 }
+
+-- Ship S with its ice class, its main engine's consumption and its speed.
+abbrev pub S : ℕ → Consumption → Range → Ship
+S ice uses speed =
     record {
       particulars = record {
         imo = 9074729;
@@ -26,17 +37,16 @@ ship-S =
         trial = record { power = 0; deadweight = record { tonnes = 0 } };
         auxiliary = 1;
         table = 0;
-        ice = 0;
+        ice = ice;
         used = 1;
       };
-      speed = record { low = 1400; high = 1400 };
-      auxiliary = record { sfc = record { low = 2000; high = 2000 }; fuel = 1; source = 1 };
-      engines = record { mcr = record { low = 8000; high = 8000 }; limit = 0; uses = record { sfc = record { low = 1800; high = 1800 }; fuel = 3; source = 1 } }
-          ∷ no-engine
-          ∷ no-engine
-          ∷ no-engine
-          ∷ [];
+      speed = speed;
+      auxiliary = reported (just 2000) 1;
+      engines = record { mcr = just 8000; limit = 0; uses = uses } ∷ no-engine ∷ no-engine ∷ no-engine ∷ [];
     }
+
+abbrev ship-S : Ship
+ship-S = S 0 (reported (just 1800) 3) (just 1400)
 
 no-refusal : refusal-of ship-S ≡ None
 unfolding refusal-of first-of tests trial-refused sum-P-ME P-ME engines-at mains engine-of uses-of
