@@ -1,6 +1,6 @@
 -- What the desk answers where there is a refusal, and where there is none.
 -- Assumes nothing.
-use mathlib.Core.Path.{_≡_, refl, sym, ap, _∙_}
+use mathlib.Core.Path.{_≡_, sym, _∙_}
 use Prim.Native.Nat.{ℕ}
 use mathlib.Core.List.{List}
 use borrow.Author.Tests.{ne-eqb}
@@ -11,7 +11,6 @@ use Rattle.ship.specs.declared.Refusal.{Refusal}
 use Rattle.ship.specs.declared.Refusal.the-variants.{None}
 use Rattle.ship.specs.declared.Ship.{Ship}
 use Rattle.ship.proofs.Order.{none}
-use Rattle.block.specs.Layout.{ship-in}
 use Rattle.block.specs.Answers.{read-refusal, read-of}
 use Rattle.block.proofs.Trips.{record-accepted}
 use Rattle.index.specs.Attained.{index-of}

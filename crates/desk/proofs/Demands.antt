@@ -4,21 +4,17 @@
 use Prim.Native.Nat.{ℕ, _+_, _*_, _^_, _≤_, _<_}
 use mathlib.Core.Path.{_≡_, refl, sym, ap, _∙_}
 use mathlib.Core.List.{List, _∷_}
-use native.Mathlib.Nat.{le-trans, lt-of-le-of-lt}
-use native.Mathlib.Omega.{arith}
 use lib.ListN.{length}
 use borrow.Author.Tests.{ne-eqb}
-use Rattle.exact.specs.Formula.{_//_, _≼_, below, above, bounds, Enclosed}
+use Rattle.exact.specs.Formula.{_//_, below, above, bounds, Enclosed}
 use Rattle.exact.specs.Ship.{declared, Figures}
 use Rattle.exact.specs.Ranges.{Range, Inside, Narrowed, Stands-for, most-favourable, least-favourable}
 use Rattle.exact.specs.Index.{whole, f-c, speed, index}
-use Rattle.exact.proofs.Formulas.{consistent}
 use Rattle.exact.proofs.Favour.{stands-most, stands-least, inside-enclosed}
 use Rattle.ship.specs.Figures.{figures}
 use Rattle.ship.specs.Refusals.{number-of}
 use Rattle.ship.specs.Rules.{tests, refusal-of}
 use Rattle.ship.specs.Accepted.{Accepted}
-use Rattle.ship.specs.declared.Refusal.{Refusal}
 use Rattle.ship.specs.declared.Refusal.the-variants.{None, Length}
 use Rattle.ship.specs.declared.Ship.{Ship}
 use Rattle.ship.proofs.Order.{First, first-is, none}
@@ -30,8 +26,7 @@ use Rattle.block.proofs.Theorems as block
 use Rattle.speed.specs.Speeds.{Speed}
 use Rattle.index.specs.Attained.{speed-of, lower-of, upper-of, index-of}
 use Rattle.index.proofs.Laws as law
-use Rattle.desk.specs.Answers.{answer-by, answer-of, answer-of-block, number-in, lower-in, upper-in}
-use Rattle.desk.specs.declared.Answer.{Answer}
+use Rattle.desk.specs.Answers.{answer-of, answer-of-block, lower-in, upper-in}
 use Rattle.desk.specs.declared.Answer.the-variants.{Bounds, Refused}
 use Rattle.desk.proofs.Answering.{refused, bounded, block-accepted}
 use mathlib.Core.Bool.{true, false}

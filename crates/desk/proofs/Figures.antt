@@ -10,11 +10,9 @@ use Rattle.exact.specs.Index.{whole, C-F, P-ME, sum-P-ME, rated, by-rule, Capac
 use Rattle.exact.specs.Ranges.{uses-at, engines-at, method-at, ship-at}
 use Rattle.exact.proofs.Fractions.{_≈_}
 use Rattle.exact.proofs.Formulas.{value}
-use Rattle.ship.specs.Record.{no-uses}
 use Rattle.ship.specs.Refusals.{first-of}
 use Rattle.ship.specs.Figures.{uses-of, engine-of, mains, auxiliary-of, method-of, figures}
 use Rattle.ship.specs.Rules.{trial-refused, tests, refusal-of}
-use Rattle.ship.specs.declared.Range.{Range}
 use Rattle.ship.specs.declared.Consumption.{Consumption}
 use Rattle.ship.specs.declared.Ship.{Ship}
 use Rattle.ship.proofs.Vectors.{just, reported, S}

@@ -1,6 +1,7 @@
 -- The desk's answers, and this paper's number and values for each case.
 -- Assumes nothing.
 use Prim.Native.Nat.{ℕ}
+use mathlib.Core.Path.{_≡_}
 use mathlib.Core.List.{List}
 use lib.Dec.{eqb}
 use Rattle.exact.specs.Index.{if}
@@ -8,6 +9,7 @@ use Rattle.ship.specs.Refusals.{number-of}
 use Rattle.ship.specs.Rules.{refusal-of}
 use Rattle.ship.specs.Figures.{figures}
 use Rattle.ship.specs.declared.Refusal.{Refusal}
+use Rattle.ship.specs.declared.Refusal.the-variants.{None}
 use Rattle.ship.specs.declared.Ship.{Ship}
 use Rattle.block.specs.Answers.{read-refusal, read-of}
 use Rattle.index.specs.Attained.{index-of}
@@ -17,6 +19,10 @@ use Rattle.desk.specs.declared.Answer.the-variants.{Bounds, Refused}
 -- A record's answer where its first refusal is r: the refusal, or where that is none the bounds.
 abbrev pub answer-by : Refusal → Ship → Answer
 answer-by r s = if (eqb (number-of r) 0) (Bounds (index-of (figures s))) (Refused r)
+
+-- Where r is none, so is the record's own refusal.
+abbrev pub Vouched : Refusal → Ship → Type 0
+Vouched r s = r ≡ None → refusal-of s ≡ None
 
 unfoldable pub answer-of : Ship → Answer
 answer-of s = answer-by (refusal-of s) s

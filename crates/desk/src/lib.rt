@@ -3,11 +3,7 @@ use index::Index;
 use ship::Refusal;
 use ship::Ship;
 ghost use mathlib.Core.Path.{_≡_};
-ghost use Rattle.ship.specs.Figures.{figures};
-ghost use Rattle.ship.specs.Rules.{refusal-of};
-ghost use Rattle.ship.specs.declared.Refusal.the-variants as refusal;
-ghost use Rattle.index.specs.Attained.{index-of};
-ghost use Rattle.desk.specs.Answers.{answer-of, answer-of-block};
+ghost use Rattle.desk.specs.Answers.{Vouched, answer-by, answer-of, answer-of-block};
 
 // The two bounds of the index in millionths, or the first rule broken.
 pub enum Answer {
@@ -15,13 +11,17 @@ pub enum Answer {
     Refused(Refusal),
 }
 
-// The bounds of a record that no rule refuses.
-fn accepted(s: Ship) -> Index
-    requires { ⌜ refusal-of s ≡ refusal.None ⌝ }
-    ensures { λ r. ⌜ r ≡ index-of (figures s) ⌝ }
+// The answer where the first refusal of a record is `own`.
+fn answered(own: Refusal, s: Ship) -> Answer
+    requires { ⌜ Vouched own s ⌝ }
+    ensures { λ r. ⌜ r ≡ answer-by own s ⌝ }
 {
+    if ship::number(own) != 0 {
+        return Answer::Refused(own);
+    }
     let v = index::speeds(s);
-    index::attained(s, v)
+    let i = index::attained(s, v);
+    Answer::Bounds(i)
 }
 
 // The answer for a record.
@@ -29,10 +29,7 @@ pub fn bounds(s: Ship) -> Answer
     ensures { λ r. ⌜ r ≡ answer-of s ⌝ }
 {
     let own = ship::rules::refusal(s);
-    if ship::number(own) != 0 {
-        return Answer::Refused(own);
-    }
-    Answer::Bounds(accepted(s))
+    answered(own, s)
 }
 
 // The answer for a block, or for any other slice of bytes.
@@ -41,9 +38,6 @@ pub fn bounds_of_block(block: &[u8]) -> Answer
 {
     let loaded = block::read(block);
     let own = loaded.refusal;
-    if ship::number(own) != 0 {
-        return Answer::Refused(own);
-    }
     let s = loaded.ship;
-    Answer::Bounds(accepted(s))
+    answered(own, s)
 }

@@ -1,13 +1,13 @@
 -- A larger consumption or rated power, or a smaller speed, never lowers the exact index: demand 3 over the formula. Assumes nothing.
-use Prim.Native.Nat.{ℕ, zero, suc, _+_, _*_, min, _≤_, _<_}
+use Prim.Native.Nat.{ℕ, zero, suc, _+_, _≤_}
 use native.Mathlib.Omega.{arith}
 use native.Mathlib.Nat.{mul-le-mul-right, add-le-add}
-use mathlib.Core.List.{List, [], _∷_}
+use mathlib.Core.List.{List, []}
 use mathlib.Core.Path.{_≡_, refl, ap₂}
 use Rattle.exact.specs.Formula.{Frac, _//_, _≼_, Formula, lit, Enclosed}
-use Rattle.exact.specs.Ship.{Deadweight, Kind, Consumption, recorded, neither, Engine, Auxiliary, rule, table, Method, declared, trial, design-trial, statistical, Particulars, Figures}
-use Rattle.exact.specs.Index.{emission, P-ME, sum-P-ME, main-emission, rated, by-rule, P-AE, V-ref, speed, emissions, transport, index}
-use Rattle.exact.specs.Ranges.{Range, within, Uses, same-fuel, no-source, Engines, no-more, one-more, Speeds, method-1, method-2, method-3, method-4, Alike, alike, Inside, narrows, Narrowed, both-ends, Stands-for, uses-at, engines-at, method-at, ship-at, low, high, most-favourable, least-favourable, Single, Settled}
+use Rattle.exact.specs.Ship.{Deadweight, Kind, Consumption, Engine, Auxiliary, rule, table, Method, declared, Particulars, Figures}
+use Rattle.exact.specs.Index.{emission, P-ME, sum-P-ME, main-emission, rated, P-AE, V-ref, speed, emissions, transport, index}
+use Rattle.exact.specs.Ranges.{Range, within, Uses, same-fuel, no-source, Engines, no-more, one-more, Speeds, method-1, method-2, method-3, method-4, alike, Inside, narrows, Narrowed, both-ends, Stands-for, uses-at, engines-at, method-at, ship-at, low, high, most-favourable, least-favourable, Single, Settled}
 use Rattle.exact.proofs.Order.{_⊑_, ⊑-refl, ⊑-lit, ⊑-sum, ⊑-product, ⊑-quotient, enclosed-between}
 use Rattle.exact.proofs.Rules.{by-rule-min}
 

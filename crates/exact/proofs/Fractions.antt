@@ -1,12 +1,12 @@
 -- The laws of fractions. Assumes nothing.
-use Prim.Native.Nat.{ℕ, _+_, _*_, _^_, _-_, _/_, _≤_, _<_}
+use Prim.Native.Nat.{ℕ, _+_, _*_, _≤_, _<_}
 use native.Mathlib.Omega.{arith}
 use native.Mathlib.Decide.{decLe}
-use native.Mathlib.Nat.{mul-le-mul, mul-le-mul-right, mul-pos, mul-comm, le-of-eq, le-of-mul-le-mul-right, eq-zero-or-pos, suc-pred-eq-of-pos, lt-of-not-le, pow-le-pow-left, div-mul-le-self, lt-div-mul-add}
+use native.Mathlib.Nat.{mul-le-mul, mul-le-mul-right, mul-pos, mul-comm, le-of-eq, le-of-mul-le-mul-right, eq-zero-or-pos, suc-pred-eq-of-pos, lt-of-not-le, pow-le-pow-left}
 use lib.Pow.{pow-add}
-use mathlib.Core.Path.{_≡_, refl, ap, sym}
+use mathlib.Core.Path.{_≡_, ap, sym}
 use mathlib.Core.Logic.{_⊎_, inl, inr}
-use Rattle.exact.specs.Formula.{Frac, _//_, _≼_, _⊹_, _·_, _↥_, Side, below, above, other, lies, at-most, at-least}
+use Rattle.exact.specs.Formula.{Frac, _//_, _≼_, _⊹_, _·_, _↥_, Side, below, above, lies, at-most, at-least}
 use Rattle.exact.proofs.Wholes.{mul-pow, pow-mul, pow-swap, root-le, pow-raise}
 
 infixl 70 _÷_
@@ -63,21 +63,6 @@ pub ≈-sym : {x y : Frac} → x ≈ y → y ≈ x
 pub ≈→≼ : {x y : Frac} → x ≈ y → x ≼ y
 ≈→≼ h = record { cross = le-of-eq (h .cross) }
 
-pub ·-comm : (x y : Frac) → x · y ≈ y · x
-·-comm x y = omega arith
-
-pub ·-assoc : (x y z : Frac) → x · y · z ≈ x · (y · z)
-·-assoc x y z = omega arith
-
-pub ·-swap : (x y z : Frac) → x · y · z ≈ x · z · y
-·-swap x y z = omega arith
-
-pub ·-middle : (x y z w : Frac) → x · y · (z · w) ≈ x · z · (y · w)
-·-middle x y z w = omega arith
-
-pub ·-distrib : (x y z : Frac) → (x ⊹ y) · z ≈ x · z ⊹ y · z
-·-distrib x y z = omega arith
-
 pub ↥-mul : (x : Frac) (m n : ℕ) → (x ↥ m) ↥ n ≈ x ↥ (m * n)
 ↥-mul x m n = record { cross = rw (pow-mul (x .num) m n, pow-mul (x .den) m n) }
 
@@ -113,16 +98,6 @@ module _ (a b : ℕ) {d e : ℕ} (p : 0 < d) (q : 0 < e) where
 
   pub over-product : a // d · b // e ≈ (a * b) // (d * e)
   over-product = record { cross = rw (suc-pred-eq-of-pos p, suc-pred-eq-of-pos q, suc-pred-eq-of-pos (mul-pos p q)) }
-
-  pub over-quotient : a // d ÷ b // e ≈ (a * e) // (d * b)
-  over-quotient = record { cross = rw (suc-pred-eq-of-pos p, suc-pred-eq-of-pos q) refl }
-
--- n / d in k-ths, rounded down and up.
-pub floor-below : (n : ℕ) {d k : ℕ} → 0 < d → 0 < k → (n * k / d) // k ≼ n // d
-floor-below n {d} {k} p q = over-≼ _ n q p (div-mul-le-self (n * k) d)
-
-pub ceiling-above : (n : ℕ) {d k : ℕ} → 0 < d → 0 < k → n // d ≼ ((n * k + (d - 1)) / d) // k
-ceiling-above n {d} {k} p q = over-≼ n _ p q (omega (arith, lt-div-mul-add {a = n * k + (d - 1)} p))
 
 -- The same laws on either side.
 pub lies-refl : (s : Side) (x : Frac) → lies s x x

@@ -1,12 +1,11 @@
 -- Ships worked by hand in document 01, against the formula: the exact index in millionths, rounded down and up. Assumes nothing.
-use Prim.Native.Nat.{ℕ, _+_, _*_, _<_}
+use Prim.Native.Nat.{ℕ}
 use mathlib.Core.Bool.{Bool, true, false}
 use mathlib.Core.List.{List, [], _∷_}
 use mathlib.Core.Path.{_≡_, refl}
 use native.Mathlib.Omega.{arith}
-use lib.Dec.{lit≤, lit<}
-use Rattle.exact.specs.Formula.{Frac, _//_, _≼_, Formula, Enclosed}
-use Rattle.exact.specs.Ship.{Deadweight, GrossTonnage, bulk, container, diesel, heavy, Consumption, recorded, neither, Engine, rule, declared, Figures}
+use Rattle.exact.specs.Formula.{_//_, _≼_, Enclosed}
+use Rattle.exact.specs.Ship.{bulk, container, diesel, heavy, Consumption, recorded, neither, rule, declared, Figures}
 use Rattle.exact.specs.Index.{whole, light-vehicles, C-F, emission, P-ME, main-emission, rated, by-rule, P-AE, Capacity, light-cargo, f-c, f-m, V-ref, sum-P-ME, speed, emissions, transport, index}
 use Rattle.exact.proofs.Fractions.{_≈_}
 use Rattle.exact.proofs.Formulas.{value, Plain, plain, enclosed-wider}

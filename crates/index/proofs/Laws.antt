@@ -1,11 +1,11 @@
 -- The laws of the bounds of an index, for a ship at one end of accepted ranges. Assumes nothing.
-use mathlib.Core.Path.{_≡_, refl, sym, ap, ap₂}
+use mathlib.Core.Path.{_≡_, refl, ap, ap₂}
 use mathlib.Core.Bool.{Bool, true, false, not}
 use mathlib.Core.List.{List, [], _∷_}
-use Prim.Native.Nat.{ℕ, _+_, _*_, _/_, _^_, _≤_, _<_}
+use Prim.Native.Nat.{ℕ, _+_, _*_, _^_, _≤_, _<_}
 use native.Mathlib.Nat.{mul-pos, mul-le-mul, mul-le-mul-left, mul-le-mul-right, suc-pred-eq-of-pos, le-trans, le-refl}
 use native.Mathlib.Omega.{arith}
-use lib.Dec.{lit<, lit≤}
+use lib.Dec.{lit<}
 use Rattle.exact.specs.Formula.{Frac, _//_, _≼_, _·_, Side, below, above, other, lies, at-most, at-least, bounds, by-product, by-quotient, Enclosed}
 use Rattle.exact.specs.Ship.{Deadweight, Kind, Engine, Method, declared, trial, design-trial, statistical, Figures}
 use Rattle.exact.specs.Ranges.{Range, low, high, engines-at, method-at, ship-at, Single, Settled, alike, Inside, Narrowed, most-favourable, least-favourable}
@@ -14,13 +14,12 @@ use Rattle.exact.proofs.Fractions.{_≈_, lies-refl, lies-≈}
 use Rattle.exact.proofs.Formulas.{consistent}
 use Rattle.exact.proofs.Favour.{low-single, high-single, method-end, ship-inside, low-inside, high-inside}
 use Rattle.number.proofs.Divisions.{floor-is, ceil-is, floor-greatest, ceil-least}
-use Rattle.power.specs.declared.Bounds.{Bounds}
 use Rattle.power.specs.Numbers.{unit}
-use Rattle.ship.specs.Accepted.{Within, Near, hundredths, Sailed, Accepted}
+use Rattle.ship.specs.Accepted.{Within, hundredths, Sailed, Accepted}
 use Rattle.plant.specs.Plant.{end, at-end, N, ice-factor}
 use Rattle.plant.proofs.Values.{emissions-exact, capacity-exact, ice-exact}
 use Rattle.plant.proofs.Growth.{end-within, N-within, N-inside, capacity-within}
-use Rattle.factor.specs.Factor.{one, factorOf, Factored}
+use Rattle.factor.specs.Factor.{one}
 use Rattle.factor.proofs.Laws.{Follows, factor-law}
 use Rattle.speed.specs.Speeds.{exactly, Fitting, Admitted, speedOf, Speed}
 use Rattle.speed.proofs.Laws.{speed-law}

@@ -1,13 +1,13 @@
 -- The laws of the bounds, of a record that no rule refuses. Assumes nothing.
-use mathlib.Core.Path.{_≡_, refl, sym, ap₂, _∙_}
+use mathlib.Core.Path.{_≡_, refl}
 use mathlib.Core.Bool.{Bool, true, false, not}
 use mathlib.Core.List.{List}
-use Prim.Native.Nat.{ℕ, zero, suc, _+_, _*_, _≤_}
+use Prim.Native.Nat.{ℕ, zero, suc, _*_}
 use native.Mathlib.Omega.{arith}
 use lib.Dec.{eqb}
 use lib.ListN.{length}
 use Rattle.exact.specs.Ship.{Engine, Method, declared, trial, design-trial, statistical}
-use Rattle.exact.specs.Ranges.{Range, low, high, engines-at, method-at, ship-at, Single, Settled, most-favourable, least-favourable}
+use Rattle.exact.specs.Ranges.{Range, low, high, engines-at, method-at, ship-at, Settled, most-favourable, least-favourable}
 use Rattle.exact.specs.Index.{sum-P-ME}
 use Rattle.power.specs.declared.Bounds.{Bounds}
 use Rattle.ship.specs.Accepted.{Within, Accepted, hundredths}

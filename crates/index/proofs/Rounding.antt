@@ -1,11 +1,10 @@
 -- The two roundings of an index: what fits, how near they are, and that they grow and fall with their parts. Assumes nothing.
-use mathlib.Core.Path.{_≡_, refl, sym}
-use Prim.Native.Nat.{ℕ, _+_, _*_, _/_, _^_, _≤_, _<_}
+use Prim.Native.Nat.{ℕ, _+_, _*_, _^_, _≤_, _<_}
 use native.Mathlib.Nat.{le-trans, le-of-lt, lt-of-le-of-lt, lt-of-lt-of-le, mul-pos, mul-le-mul, mul-le-mul-left, mul-le-mul-right, le-of-mul-le-mul-right, lt-of-mul-lt-mul-right}
 use native.Mathlib.Omega.{arith}
 use lib.Dec.{lit<, lit≤}
-use Rattle.number.specs.Division.{Divisible, Floor, Ceil, ceilOf}
-use Rattle.number.proofs.Divisions.{floor-is, ceil-is, floor-greatest, ceil-least, floor-order, ceil-order}
+use Rattle.number.specs.Division.{Divisible, Floor, Ceil}
+use Rattle.number.proofs.Divisions.{floor-is, ceil-is, ceil-least, floor-order, ceil-order}
 use Rattle.ship.specs.Accepted.{Within}
 use Rattle.index.specs.Attained.{millionths-down, millionths-up, lowerOf, upperOf, Sized}
 

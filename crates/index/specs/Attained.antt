@@ -1,7 +1,6 @@
 -- The bounds of one ship's index, by names that are kept shut: their laws (proofs/Laws.antt) are all that may be used of them.
 -- Assumes nothing.
-use mathlib.Core.Path.{_≡_}
-use Prim.Native.Nat.{ℕ, _+_, _*_, _/_, _^_, _≤_, _<_}
+use Prim.Native.Nat.{ℕ, _*_, _/_, _^_, _≤_}
 use Rattle.exact.specs.Ship.{Figures}
 use Rattle.exact.specs.Ranges.{Range, most-favourable, least-favourable}
 use Rattle.exact.specs.Index.{sum-P-ME}

@@ -10,8 +10,8 @@ use lib.Dec.{lit≤}
 use lib.ListN.{length}
 use Rattle.exact.specs.Ship.{Fuel, diesel, light, heavy, propane, butane, lng, methanol, ethanol, Kind, Deadweight, Consumption, recorded, neither, Engine, Auxiliary, rule, table, Figures}
 use Rattle.exact.specs.Index.{if, container?, C-F, rated}
-use Rattle.exact.specs.Ranges.{Range, Uses, same-fuel, no-source, Engines, no-more, one-more, alike, Inside, Narrowed, most-favourable, least-favourable, uses-at, engines-at, ship-at, low, high}
-use Rattle.exact.proofs.Favour.{P-ME-mono, rated-mono, turn-uses, turn-engines, uses-end, engines-end, ship-inside, low-inside, high-inside}
+use Rattle.exact.specs.Ranges.{Range, Uses, same-fuel, no-source, Engines, no-more, one-more, alike, Inside, most-favourable, least-favourable, uses-at, engines-at, ship-at, low, high}
+use Rattle.exact.proofs.Favour.{P-ME-mono, rated-mono, turn-uses, turn-engines, uses-end, engines-end}
 use Rattle.exact.proofs.Rules.{by-rule-min}
 use Rattle.ship.specs.Accepted as accepted
 use Rattle.ship.specs.Accepted.{Within, Ends, Measured, Rated, Each, Supplied, hundredths, Accepted}
@@ -48,11 +48,6 @@ N-mono f f' same e c =
     rw same
     (add-le-add (mul-le-mul-left 10 (main-mono e)) (mul-le-mul (auxiliary-mono (f' .ship .auxiliary) (rated-mono e)) (grams-mono 215 c)))
 
--- Nothing but P_AE's rule or table, the engines and the auxiliary consumption counts.
-pub N-same : (f f' : Figures ℕ) → f .ship .auxiliary ≡ f' .ship .auxiliary → f .engines ≡ f' .engines → f .auxiliary-uses ≡ f' .auxiliary-uses → N f ≡ N f'
-unfolding N
-N-same f f' a e c = rw (a, e, c)
-
 -- A ship inside the ranges emits no less than the one at the low end, and no more than the one at the high end.
 pub N-inside : {r : Figures Range} {f : Figures ℕ} → Inside r f → (N (at-end false r) ≤ N f) × (N f ≤ N (at-end true r))
 unfolding ship-at
@@ -60,10 +55,6 @@ N-inside (alike e c v) = (
   N-mono _ _ refl (engines-end low (λ r n h. h .0) e) (uses-end low (λ r n h. h .0) c),
   N-mono _ _ refl (turn-engines (engines-end high (λ r n h. h .1) e)) (turn-uses (uses-end high (λ r n h. h .1) c)),
 )
-
--- Narrowing moves the emissions at neither end outward.
-pub N-narrowed : {r r' : Figures Range} → Narrowed r r' → (N (at-end false r) ≤ N (at-end false r')) × (N (at-end true r') ≤ N (at-end true r))
-N-narrowed n = (N-inside (ship-inside low high low-inside high-inside n) .0, N-inside (ship-inside high low high-inside low-inside n) .1)
 
 -- ── Within bounds ───────────────────────────────────────────────────────────────────────────
 

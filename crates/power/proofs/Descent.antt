@@ -1,13 +1,11 @@
 -- The power by roots: what the pair holds after each digit of the exponent, and how near its two ends are. Assumes nothing.
-use mathlib.Core.Path.{_≡_, refl, sym, _∙_, ap}
-use mathlib.Core.Bool.{true, false}
+use mathlib.Core.Path.{_≡_, refl, sym, ap}
 use Prim.Native.Nat.{ℕ, zero, suc, _+_, _-_, _*_, _/_, _%_, _^_, _≤_, _<_}
-use native.Mathlib.Nat.{le-trans, le-of-eq, le-of-lt, mul-le-mul-left, mul-le-mul-right, mul-pos, mul-assoc, mul-comm, mul-one, one-mul, mod-lt, le-of-mul-le-mul-right, pow-le-pow-left, pow-suc, pow-zero, one-le-pow, suc-pred-eq-of-pos, zero-lt-suc, not-suc-le-zero, le-of-suc-le-suc, div-add-mod, div-lt-iff-lt-mul}
+use native.Mathlib.Nat.{le-trans, le-of-eq, mul-le-mul-left, mul-le-mul-right, mul-pos, mul-one, mod-lt, le-of-mul-le-mul-right, pow-le-pow-left, pow-suc, pow-zero, suc-pred-eq-of-pos, zero-lt-suc, not-suc-le-zero, le-of-suc-le-suc, div-add-mod, div-lt-iff-lt-mul}
 use native.Mathlib.Omega.{arith}
-use lib.Dec.{lit≤, lit<, eqb}
+use lib.Dec.{lit≤}
 use lib.Pow.{pow-pos, pow-mono}
-use Rattle.exact.specs.Formula.{Frac, _//_, _≼_, _⊹_, _·_, _↥_, Side, below, above, lies, at-most, at-least, lies-power}
-use Rattle.exact.specs.Index.{if}
+use Rattle.exact.specs.Formula.{Frac, _//_, _≼_, _⊹_, _·_, _↥_, Side, below, above, at-most, lies-power}
 use Rattle.exact.proofs.Wholes.{mul-pow, pow-mul, pow-one, one-pow}
 use Rattle.exact.proofs.Fractions.{_≈_, over-≼, lies-refl, lies-≈}
 use Rattle.exact.proofs.Formulas.{power-between}

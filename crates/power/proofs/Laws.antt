@@ -1,6 +1,5 @@
 -- The laws of the power by name: what its users may know of it. Assumes nothing.
-use mathlib.Core.Path.{_≡_}
-use Prim.Native.Nat.{ℕ, _+_, _*_, _^_, _≤_, _<_}
+use Prim.Native.Nat.{ℕ, _*_, _^_, _≤_, _<_}
 use native.Mathlib.Nat.{le-trans, le-of-eq, mul-comm, suc-pred-eq-of-pos}
 use native.Mathlib.Omega.{arith}
 use Rattle.exact.specs.Formula.{_//_, _≼_, Side, below, above, other, lies, lies-power}
@@ -8,10 +7,10 @@ use Rattle.exact.proofs.Fractions.{≼-refl, over-≼}
 use Rattle.exact.proofs.Formulas.{power-between}
 use Rattle.exact.proofs.Powers.{power-base, power-out, power-below, power-above, whole-below, whole-above}
 use Rattle.power.specs.declared.Pair.{Pair}
-use Rattle.power.specs.Numbers.{unit, val, Norm}
+use Rattle.power.specs.Numbers.{val}
 use Rattle.power.specs.Steps.{baseOf, rootsOf}
 use Rattle.power.specs.Power.{BoundsPower, Raisable, powerOf, Power}
-use Rattle.power.proofs.Squares.{fraction, end, val-low, val-high}
+use Rattle.power.proofs.Squares.{val-low, val-high}
 use Rattle.power.proofs.Descent.{Held, roots-held, roots-near}
 use Rattle.power.proofs.Leading.{Based, based}
 

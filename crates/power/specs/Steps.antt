@@ -1,6 +1,5 @@
 -- The steps of a power, each by name: what every function of this crate answers. Its users need none of them, only the laws of `powerOf`.
 -- Assumes nothing.
-use mathlib.Core.Bool.{true, false}
 use Prim.Native.Nat.{ℕ, zero, suc, _+_, _-_, _*_, _/_, _%_, _^_}
 use lib.Dec.{eqb, ltb, leb}
 use Rattle.exact.specs.Index.{if}

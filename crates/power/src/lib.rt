@@ -23,7 +23,7 @@ pub struct Square {
     pub f: u64,
 }
 
-// Whole numbers of units of 2^-30.
+// The lower and the upper end of a figure, in whole units; of a power they are 2^-30.
 pub struct Bounds {
     pub lo: u64,
     pub hi: u64,

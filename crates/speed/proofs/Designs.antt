@@ -6,7 +6,7 @@ use native.Mathlib.Nat.{le-trans, le-refl, mul-pos, mul-le-mul, mul-le-mul-left,
 use native.Mathlib.Omega.{arith}
 use lib.Dec.{leb, lit<, lit≤}
 use borrow.Author.Tests.{leb-true, leb-false}
-use Rattle.exact.specs.Formula.{Frac, _//_, _≼_, _·_, _↥_, Side, below, above, other, lies, at-most, at-least, Formula, lit, _⊗_, _⊘_, _↑_, bounds, by-lit, by-product, by-quotient, by-power, Enclosed}
+use Rattle.exact.specs.Formula.{_//_, _≼_, _·_, Side, below, above, other, at-most, at-least, Formula, lit, _⊗_, _⊘_, _↑_, bounds, by-lit, by-product, by-quotient, by-power, Enclosed}
 use Rattle.exact.specs.Ship.{Deadweight, Kind, bulk, gas, tanker, container, refrigerated, combination, vehicle, design-trial}
 use Rattle.exact.specs.Index.{whole, percent, if, Capacity, V-ref}
 use Rattle.exact.specs.Index as rules
@@ -21,7 +21,7 @@ use Rattle.ship.specs.Accepted.{Within, Near, hundredths}
 use Rattle.plant.proofs.Values.{capacity-exact}
 use Rattle.plant.proofs.Growth.{capacity-within}
 use Rattle.speed.specs.declared.Split.{Split}
-use Rattle.speed.specs.Speeds.{pair, undivided, timesOf, Parted, Factor, Fives, speedFrom, kRootOf, upOf, downOf, partsOf, designOf, Speed}
+use Rattle.speed.specs.Speeds.{pair, undivided, timesOf, Parted, Factor, Fives, kRootOf, upOf, downOf, partsOf, designOf, Speed}
 use Rattle.speed.proofs.Products.{product-is, chain}
 use Rattle.speed.proofs.Sides.{at}
 use Rattle.speed.proofs.Trials.{measured, trial-moderate}

@@ -1,5 +1,5 @@
 -- The law of the speed by name, for every method: what its users may know of it. Assumes nothing.
-use Prim.Native.Nat.{ℕ, _+_, _*_, _≤_}
+use Prim.Native.Nat.{ℕ, _*_}
 use native.Mathlib.Omega.{arith}
 use Rattle.exact.specs.Formula.{_//_, below, above, lit, by-lit}
 use Rattle.exact.specs.Ship.{Deadweight, Kind, Method, declared, trial, design-trial, statistical}

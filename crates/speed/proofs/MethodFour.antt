@@ -1,13 +1,13 @@
 -- Method 4 from its parts. Assumes nothing.
-use mathlib.Core.Path.{_≡_, refl}
+use mathlib.Core.Path.{refl}
 use mathlib.Core.Logic.{⊎-elim}
 use Prim.Native.Nat.{ℕ, _+_, _*_, _^_, _≤_, _<_}
 use native.Mathlib.Nat.{le-trans, mul-pos, one-le-pow, suc-pred-eq-of-pos}
 use native.Mathlib.Omega.{arith}
 use lib.Dec.{lit<, lit≤}
-use Rattle.exact.specs.Formula.{Frac, _//_, _≼_, _·_, _↥_, Side, below, above, other, lies, at-most, at-least, Formula, lit, _⊗_, _⊘_, _↑_, bounds, Enclosed}
+use Rattle.exact.specs.Formula.{_//_, _≼_, _·_, _↥_, Side, below, above, other, lies, at-most, at-least, lit, bounds}
 use Rattle.exact.specs.Ship.{Deadweight, Kind, statistical}
-use Rattle.exact.specs.Index.{percent, row, sized, V-avg, MCR-avg, less-margin, V-ref}
+use Rattle.exact.specs.Index.{row, sized, V-avg, less-margin, V-ref}
 use Rattle.exact.proofs.Wholes.{mul-pow}
 use Rattle.exact.proofs.Fractions.{_≈_, lies-≈}
 use Rattle.number.specs.Ratio.{Moderate}
@@ -17,11 +17,11 @@ use Rattle.power.specs.Power.{BoundsPower, Raisable, powerOf, Power}
 use Rattle.power.proofs.Laws.{power-law}
 use Rattle.ship.specs.Accepted.{Within}
 use Rattle.speed.specs.declared.Split.{Split}
-use Rattle.speed.specs.Speeds.{pair, Parted, speedFrom, averageOf, lessMarginOf, statisticalOf, Speed}
+use Rattle.speed.specs.Speeds.{pair, Parted, averageOf, lessMarginOf, statisticalOf, Speed}
 use Rattle.speed.proofs.Products.{Product, product-is}
-use Rattle.speed.proofs.Rows.{Fit, row-fits, root-at, most, Cuts, two-cuts, sized-within}
+use Rattle.speed.proofs.Rows.{Fit, row-fits, root-at, most, two-cuts, sized-within}
 use Rattle.speed.proofs.Sides.{at, shape, Cubes, cubes}
-use Rattle.speed.proofs.Statistics.{size-raisable, Averaged, averaged, average-bounds, Kept, kept, margin-bounds, mcr-at, mcr-bounds}
+use Rattle.speed.proofs.Statistics.{size-raisable, Averaged, averaged, average-bounds, kept, margin-bounds, mcr-at, mcr-bounds}
 use Rattle.speed.proofs.Reach.{spread, apart, slowest, fastest}
 
 -- ── The formula's root ──────────────────────────────────────────────────────────────────────

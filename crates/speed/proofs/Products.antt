@@ -1,12 +1,11 @@
 -- The shape that methods 2 to 4 share, in whole numbers: what its two ends are at most and at least, and how near they are.
 -- Assumes nothing.
-use mathlib.Core.Path.{_≡_}
-use Prim.Native.Nat.{ℕ, _+_, _*_, _/_, _^_, _≤_, _<_}
-use native.Mathlib.Nat.{mul-le-mul-right, mul-le-mul-left, mul-le-mul, mul-pos, le-of-mul-le-mul-right, le-trans, le-of-lt, one-le-pow, pow-le-pow-left, lt-of-le-of-lt}
+use Prim.Native.Nat.{ℕ, _+_, _*_, _^_, _≤_, _<_}
+use native.Mathlib.Nat.{mul-le-mul-right, mul-le-mul-left, mul-le-mul, mul-pos, le-of-mul-le-mul-right, le-trans, le-of-lt, one-le-pow, pow-le-pow-left}
 use native.Mathlib.Omega.{arith}
 use lib.Dec.{lit≤, lit<}
 use Rattle.exact.proofs.Wholes.{mul-pow}
-use Rattle.number.specs.Division.{Floor, Ceil, ceilOf}
+use Rattle.number.specs.Division.{Floor, Ceil}
 use Rattle.number.specs.Ratio.{Moderate, CubeRoot, cubeRootOf}
 use Rattle.number.proofs.Divisions.{floor-is, ceil-is}
 use Rattle.number.proofs.Ratios.{cubeRootOf-is, root-low, root-high, root-near, root-least, root-most, units-some, units-few}

@@ -1,7 +1,7 @@
 -- How slow and how fast method 4 can be: E^(F/3) against B^C, and so the speed against one knot and against 280. Assumes nothing.
 use mathlib.Core.Path.{_≡_, sym}
 use Prim.Native.Nat.{ℕ, _+_, _*_, _^_, _≤_, _<_}
-use native.Mathlib.Nat.{le-trans, le-of-eq, mul-pos, mul-comm, mul-one, mul-le-mul-left, mul-le-mul-right, one-le-pow, pow-le-pow-left, pow-le-pow-right, le-of-mul-le-mul-right, zero-lt-suc}
+use native.Mathlib.Nat.{le-trans, le-of-eq, mul-pos, mul-one, mul-le-mul-left, mul-le-mul-right, one-le-pow, pow-le-pow-left, pow-le-pow-right, le-of-mul-le-mul-right, zero-lt-suc}
 use native.Mathlib.Omega.{arith}
 use lib.Dec.{lit<}
 use lib.Pow.{pow-add}

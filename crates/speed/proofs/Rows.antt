@@ -2,7 +2,7 @@
 -- Assumes nothing.
 use mathlib.Core.Path.{_≡_, refl}
 use mathlib.Core.Bool.{Bool, true, false}
-use Prim.Native.Nat.{ℕ, _+_, _*_, _^_, _≤_, _<_, min}
+use Prim.Native.Nat.{ℕ, _+_, _*_, _^_, _≤_, min}
 use native.Mathlib.Omega.{arith}
 use lib.Dec.{eqb}
 use Rattle.exact.specs.Ship.{Deadweight, Kind, bulk, gas, tanker, container, refrigerated, combination, vehicle}
@@ -10,8 +10,6 @@ use Rattle.exact.specs.Index.{if, container?, row, sized}
 use Rattle.ship.specs.Accepted.{Within}
 use Rattle.ship.specs.Figures.{kind-of}
 use Rattle.ship.proofs.Figured.{of-seven}
-use Rattle.speed.specs.declared.Row.{Row}
-use Rattle.speed.specs.Speeds.{RowOf}
 
 -- j and m: 600,000^C is at most m, since C is at most 1/j and 600,000 at most m^j.
 pub record Fit (A C D F j m : ℕ) : Type 0 where

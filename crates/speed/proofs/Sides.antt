@@ -1,11 +1,10 @@
 -- From whole numbers to bounds on the formula of a speed, for either side at once. Assumes nothing.
-use mathlib.Core.Path.{_≡_, ap}
-use Prim.Native.Nat.{ℕ, _+_, _*_, _^_, _≤_, _<_}
-use native.Mathlib.Nat.{mul-pos, one-le-pow, suc-pred-eq-of-pos, zero-lt-suc}
+use Prim.Native.Nat.{ℕ, _*_, _^_, _≤_, _<_}
+use native.Mathlib.Nat.{zero-lt-suc}
 use native.Mathlib.Omega.{arith}
-use Rattle.exact.specs.Formula.{Frac, _//_, _≼_, _·_, _↥_, Side, below, above, other, lies, at-most, at-least, Formula, lit, _⊗_, _⊘_, _↑_, bounds, by-lit, by-product, by-quotient, by-power, lies-power}
-use Rattle.exact.proofs.Wholes.{mul-pow, pow-one, one-pow}
-use Rattle.exact.proofs.Fractions.{_≈_, lies-refl, lies-≈}
+use Rattle.exact.specs.Formula.{Frac, _//_, _≼_, _·_, _↥_, Side, below, above, other, lies, Formula, lit, _⊗_, _⊘_, _↑_, bounds, by-lit, by-product, by-quotient, by-power}
+use Rattle.exact.proofs.Wholes.{pow-one, one-pow}
+use Rattle.exact.proofs.Fractions.{lies-refl}
 use Rattle.exact.proofs.Formulas.{power-between}
 use Rattle.exact.proofs.Powers.{power-above, power-third, up-below}
 use Rattle.exact.proofs.Fractions.{over-≼}

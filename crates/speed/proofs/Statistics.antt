@@ -1,15 +1,15 @@
 -- Method 4: V_avg, the margin, and MCR_avg. Assumes nothing.
-use mathlib.Core.Path.{_≡_, refl, sym}
+use mathlib.Core.Path.{_≡_, refl}
 use mathlib.Core.Bool.{Bool, true, false}
 use mathlib.Core.Logic.{_⊎_, inl, inr, ⊎-elim}
 use Prim.Native.Nat.{ℕ, _+_, _-_, _*_, _/_, _^_, _≤_, _<_}
-use native.Mathlib.Nat.{mul-le-mul, mul-le-mul-left, suc-pred-eq-of-pos, zero-lt-suc}
+use native.Mathlib.Nat.{mul-le-mul, mul-le-mul-left, suc-pred-eq-of-pos}
 use native.Mathlib.Omega.{arith}
 use lib.Dec.{leb, lit<, lit≤}
 use borrow.Author.Tests.{leb-true, leb-false}
-use Rattle.exact.specs.Formula.{Frac, _//_, _≼_, _⊹_, _·_, _↥_, Side, below, above, other, lies, at-most, at-least, Formula, lit, _⊖_, _⊗_, larger, _↑_, bounds, by-lit, by-difference, by-product, larger-first, larger-second, larger-both, by-power, Enclosed}
+use Rattle.exact.specs.Formula.{Frac, _//_, _≼_, _⊹_, _·_, _↥_, Side, below, above, at-most, at-least, Formula, _⊗_, bounds, by-lit, by-difference, by-product, larger-first, larger-second, larger-both, by-power, Enclosed}
 use Rattle.exact.specs.Ship.{Deadweight, Kind}
-use Rattle.exact.specs.Index.{whole, percent, if, row, sized, V-avg, MCR-avg, less-margin}
+use Rattle.exact.specs.Index.{percent, if, row, sized, V-avg, MCR-avg, less-margin}
 use Rattle.exact.proofs.Fractions.{_≈_, lies-refl, lies-≈}
 use Rattle.exact.proofs.Powers.{power-cubed}
 use Rattle.power.specs.declared.Bounds.{Bounds}

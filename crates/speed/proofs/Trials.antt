@@ -1,28 +1,19 @@
 -- Methods 2 and 3 from their parts. Assumes nothing.
-use mathlib.Core.Path.{_≡_, refl}
-use mathlib.Core.Bool.{Bool, true, false}
-use Prim.Native.Nat.{ℕ, _+_, _*_, _/_, _^_, _≤_, _<_}
-use native.Mathlib.Nat.{le-trans, le-refl, mul-pos, mul-le-mul, mul-le-mul-left, mul-le-mul-right, le-of-mul-le-mul-right, suc-pred-eq-of-pos}
+use Prim.Native.Nat.{ℕ, _*_, _^_, _≤_, _<_}
+use native.Mathlib.Nat.{le-trans, le-refl, mul-le-mul-left, suc-pred-eq-of-pos}
 use native.Mathlib.Omega.{arith}
-use lib.Dec.{leb, lit<, lit≤}
-use borrow.Author.Tests.{leb-true, leb-false}
-use Rattle.exact.specs.Formula.{Frac, _//_, _≼_, _·_, _↥_, Side, below, above, other, lies, at-most, at-least, Formula, lit, _⊗_, _⊘_, _↑_, bounds, by-lit, by-product, by-quotient, by-power, Enclosed}
-use Rattle.exact.specs.Ship.{Deadweight, Kind, trial, design-trial}
-use Rattle.exact.specs.Index.{whole, percent, if, Capacity, V-ref}
+use lib.Dec.{lit≤}
+use Rattle.exact.specs.Formula.{_//_, _≼_, _·_, _↥_, Side, below, above, other, lies, at-most, at-least, Formula, lit, _⊗_, _⊘_, _↑_, bounds, by-lit}
+use Rattle.exact.specs.Ship.{Deadweight, Kind, trial}
+use Rattle.exact.specs.Index.{whole, V-ref}
 use Rattle.exact.specs.Index as rules
 use Rattle.exact.proofs.Fractions.{_≈_, ≈-sym, lies-refl, lies-≈}
-use Rattle.number.specs.Division.{Floor, Ceil, ceilOf}
 use Rattle.number.specs.Ratio.{Moderate}
-use Rattle.number.proofs.Divisions.{floor-is, ceil-is, floor-greatest, ceil-least, floor-ceil}
 use Rattle.power.specs.declared.Bounds.{Bounds}
-use Rattle.power.specs.Numbers.{unit}
-use Rattle.power.specs.Power.{BoundsPower, Raisable, powerOf, Power}
-use Rattle.power.proofs.Laws.{in-words, rescaled, inverted, capped, power-law}
-use Rattle.ship.specs.Accepted.{Within, Near, hundredths}
-use Rattle.plant.proofs.Values.{capacity-exact}
+use Rattle.ship.specs.Accepted.{Within, Near}
 use Rattle.speed.specs.declared.Split.{Split}
-use Rattle.speed.specs.Speeds.{pair, exactly, undivided, timesOf, Parted, speedFrom, trialOf, kRootOf, upOf, downOf, partsOf, designOf, Speed}
-use Rattle.speed.proofs.Products.{Product, product-is, chain}
+use Rattle.speed.specs.Speeds.{exactly, undivided, Parted, trialOf, Speed}
+use Rattle.speed.proofs.Products.{Product, product-is}
 use Rattle.speed.proofs.Sides.{at, shape, Cubes, cubes}
 
 -- ── A measured speed ────────────────────────────────────────────────────────────────────────

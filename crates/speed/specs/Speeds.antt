@@ -5,9 +5,9 @@ use mathlib.Core.List.{[], _∷_}
 use Prim.Native.Nat.{ℕ, _+_, _-_, _*_, _/_, _^_, _≤_, _<_}
 use lib.Dec.{leb}
 use lib.ListN.{getD}
-use Rattle.exact.specs.Formula.{_//_, Formula, lit, Enclosed}
+use Rattle.exact.specs.Formula.{_//_, Formula, Enclosed}
 use Rattle.exact.specs.Ship.{Deadweight, Kind, Method, declared, trial, design-trial, statistical}
-use Rattle.exact.specs.Index.{if, k, row, sized, V-ref}
+use Rattle.exact.specs.Index.{if, k, row, sized}
 use Rattle.number.specs.Division.{ceilOf}
 use Rattle.number.specs.Ratio.{cubeRootOf}
 use Rattle.power.specs.declared.Bounds.{Bounds}

@@ -58,53 +58,25 @@ fn speed_from(s: Split, n: u64, d: u64) -> Bounds
     Bounds { lo, hi }
 }
 
+fn coefficients(a: u64, c: u64, d: u64, f: u64) -> Row
+    ensures { λ r. ⌜ (r .a ≡ a) × (r .c ≡ c) × (r .d ≡ d) × (r .f ≡ f) ⌝ }
+{
+    Row { a, c, d, f }
+}
+
+// The table of method 4: A and D in ten-thousandths, C and F in hundred-thousandths.
 fn row_of(kind: u64) -> Row
     requires { ⌜ Within 1 7 kind ⌝ }
     ensures { λ r. ⌜ RowOf (kind-of kind) r ⌝ }
 {
     match kind {
-        1 => Row {
-            a: 106585,
-            c: 2706,
-            d: 237510,
-            f: 54087,
-        },
-        2 => Row {
-            a: 74462,
-            c: 7604,
-            d: 214704,
-            f: 59522,
-        },
-        3 => Row {
-            a: 81358,
-            c: 5383,
-            d: 228415,
-            f: 55826,
-        },
-        4 => Row {
-            a: 32395,
-            c: 18294,
-            d: 5042,
-            f: 103046,
-        },
-        5 => Row {
-            a: 10600,
-            c: 31518,
-            d: 272,
-            f: 138634,
-        },
-        6 => Row {
-            a: 81391,
-            c: 5378,
-            d: 228536,
-            f: 55820,
-        },
-        _ => Row {
-            a: 166773,
-            c: 1802,
-            d: 2627693,
-            f: 39973,
-        },
+        1 => coefficients(106585, 2706, 237510, 54087),
+        2 => coefficients(74462, 7604, 214704, 59522),
+        3 => coefficients(81358, 5383, 228415, 55826),
+        4 => coefficients(32395, 18294, 5042, 103046),
+        5 => coefficients(10600, 31518, 272, 138634),
+        6 => coefficients(81391, 5378, 228536, 55820),
+        _ => coefficients(166773, 1802, 2627693, 39973),
     }
 }
 

@@ -1,11 +1,10 @@
 -- `index::attained` meets its contract. Assumes nothing.
-use mathlib.Core.Path.{_≡_, _∙_}
-use mathlib.Core.Bool.{true, false}
+use mathlib.Core.Path.{_∙_}
 use native.Mathlib.Nat.{mul-le-mul}
 use native.Mathlib.Omega.{arith}
 use borrow.Author.Needs.{needs}
 use Rattle.ship.proofs.Typed.{four}
-use Rattle.index.specs.Attained.{speeds-of, index-of}
+use Rattle.index.specs.Attained.{index-of}
 use Rattle.index.proofs.Records.{lower-sized, upper-sized, lower-named, upper-named}
 use Rattle.index.proofs.attained.Statement.{statement}
 use Rattle.index.proofs.attained.Tie as tie

@@ -9,7 +9,7 @@ use Rattle.ship.specs.Figures.{kind-of, deadweight-of}
 use Rattle.ship.proofs.Figured.{capacity-same}
 use Rattle.speed.specs.Speeds.{Fives, designOf}
 use Rattle.speed.proofs.Trials.{trial-moderate}
-use Rattle.speed.proofs.Designs.{k-within, k-root, fives, DesignParts, design-parts}
+use Rattle.speed.proofs.Designs.{k-within, k-root, fives, design-parts}
 use Rattle.speed.proofs.design.Statement.{statement}
 use Rattle.speed.proofs.design.Tie as tie
 

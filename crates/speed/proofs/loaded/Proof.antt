@@ -1,5 +1,4 @@
 -- `speed::loaded` meets its contract. Assumes nothing.
-use native.Mathlib.Omega.{arith}
 use borrow.Author.Needs.{needs}
 use borrow.Author.Tests.{le-leb, lt-leb}
 use Rattle.speed.specs.Speeds.{partsOf}

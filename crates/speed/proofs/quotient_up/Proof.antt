@@ -1,5 +1,5 @@
 -- `speed::quotient_up` meets its contract: two roundings up are one. Assumes nothing.
-use Prim.Native.Nat.{_*_, _^_, _≤_}
+use Prim.Native.Nat.{_^_, _≤_}
 use native.Mathlib.Nat.{mul-pos}
 use native.Mathlib.Omega.{arith}
 use borrow.Author.Needs.{needs}

@@ -1,9 +1,7 @@
 -- `speed::root_of_k` meets its contract. Assumes nothing.
-use Prim.Native.Nat.{_^_, _≤_, _<_}
-use native.Mathlib.Nat.{le-trans}
 use native.Mathlib.Omega.{arith}
 use borrow.Author.Needs.{needs}
-use Rattle.power.specs.Power.{Power, powerOf}
+use Rattle.power.specs.Power.{Power}
 use Rattle.power.proofs.Laws.{power-law}
 use Rattle.speed.specs.Speeds.{kRootOf}
 use Rattle.speed.proofs.Designs.{k-raisable}

@@ -3,7 +3,7 @@ use mathlib.Core.Path.{_≡_}
 use Prim.Native.Nat.{_*_, _^_, _≤_, _<_}
 use native.Mathlib.Nat.{le-trans, lt-of-le-of-lt}
 use native.Mathlib.Omega.{arith}
-use lib.Dec.{lit≤, lit<}
+use lib.Dec.{lit<}
 use borrow.Author.Needs.{needs}
 use Rattle.number.specs.Ratio.{cubeRootOf}
 use Rattle.number.proofs.Ratios.{cube-named}

@@ -1,5 +1,4 @@
 -- `speed::times` meets its contract. Assumes nothing.
-use Prim.Native.Nat.{_*_, _^_, _≤_}
 use native.Mathlib.Nat.{mul-le-mul}
 use native.Mathlib.Omega.{arith}
 use borrow.Author.Needs.{needs}

@@ -1,5 +1,4 @@
 -- `speed::trial` meets its contract. Assumes nothing.
-use native.Mathlib.Omega.{arith}
 use borrow.Author.Needs.{needs}
 use Rattle.speed.specs.Speeds.{trialOf}
 use Rattle.speed.proofs.Trials.{trial-parted, trial-moderate}
