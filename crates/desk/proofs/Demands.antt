@@ -18,7 +18,9 @@ use Rattle.ship.specs.Accepted.{Accepted}
 use Rattle.ship.specs.declared.Refusal.the-variants.{None, Length}
 use Rattle.ship.specs.declared.Ship.{Ship}
 use Rattle.ship.proofs.Order.{First, first-is, none}
+use Rattle.ship.specs.Ends.{record-end}
 use Rattle.ship.proofs.Figured.{accepted}
+use Rattle.ship.proofs.Ends as ends
 use Rattle.fields.proofs.Numbers.{Bytes}
 use Rattle.block.specs.Layout.{encode, ship-in}
 use Rattle.block.specs.Answers.{length-refused, block-tests, read-refusal, read-of, loaded, write-refusal, write-of}
@@ -29,7 +31,7 @@ use Rattle.index.proofs.Laws as law
 use Rattle.desk.specs.Answers.{answer-of, answer-of-block, lower-in, upper-in}
 use Rattle.desk.specs.declared.Answer.the-variants.{Bounds, Refused}
 use Rattle.desk.proofs.Answering.{refused, bounded, block-accepted}
-use mathlib.Core.Bool.{true, false}
+use mathlib.Core.Bool.{Bool, true, false}
 
 -- ── Demand 1: every input has exactly one answer, by the first rule broken ──────────────────
 
@@ -134,6 +136,9 @@ ship-back {s} t = block.same-ship s (t .entries) (t .none)
 pub bytes-back : (b : List ℕ) → Bytes b → read-refusal b ≡ None → encode (read-of b .ship) ≡ b
 bytes-back = block.same-bytes
 
+end-taken : {s : Ship} (top : Bool) → Taken s → Taken (record-end top s)
+end-taken {s} top t = record { entries = ends.entries-end top (s .engines) ∙ t .entries; none = ends.accepted-end top s (t .none) }
+
 -- ── Demand 3: with ranges ───────────────────────────────────────────────────────────────────
 
 -- Every ship inside the ranges has its exact index between the bounds.
@@ -148,6 +153,13 @@ lower-of-most t t' one = lower-is t' ∙ ap lower-of (stands-most one) ∙ sym (
 
 pub upper-of-least : {s s' : Ship} → Taken s → Taken s' → Stands-for (figures s') (least-favourable (figures s)) → upper s' ≡ upper s
 upper-of-least t t' one = upper-is t' ∙ ap upper-of (stands-least one) ∙ sym (upper-is t)
+
+-- There are such records, and they are accepted: the one with every SFC and MCR low and the speed high, and the reverse.
+pub most-taken : {s : Ship} → Taken s → Taken (record-end false s) × Stands-for (figures (record-end false s)) (most-favourable (figures s))
+most-taken {s} t = (end-taken false t, ends.stands-most s)
+
+pub least-taken : {s : Ship} → Taken s → Taken (record-end true s) × Stands-for (figures (record-end true s)) (least-favourable (figures s))
+least-taken {s} t = (end-taken true t, ends.stands-least s)
 
 -- Narrowing moves neither outward.
 pub narrowing : {s s' : Ship} → Taken s → Taken s' → Narrowed (figures s) (figures s') → (lower s ≤ lower s') × (upper s' ≤ upper s)

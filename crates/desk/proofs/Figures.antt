@@ -15,7 +15,8 @@ use Rattle.ship.specs.Figures.{uses-of, engine-of, mains, auxiliary-of, method-
 use Rattle.ship.specs.Rules.{trial-refused, tests, refusal-of}
 use Rattle.ship.specs.declared.Consumption.{Consumption}
 use Rattle.ship.specs.declared.Ship.{Ship}
-use Rattle.ship.proofs.Vectors.{just, reported, S}
+use Rattle.ship.specs.Ends.{just}
+use Rattle.ship.proofs.Vectors.{reported, S}
 use Rattle.plant.specs.Plant.{grams, main-grams, auxiliary-power, N, ice-factor}
 use Rattle.factor.specs.Factor.{cargoOf, factorOf}
 use Rattle.speed.specs.Speeds.{speedOf}

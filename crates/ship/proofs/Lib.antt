@@ -5,3 +5,4 @@ pub mod Right
 pub mod Figured
 pub mod Typed
 pub mod Vectors
+pub mod Ends

@@ -6,6 +6,7 @@ use mathlib.Core.List.{[], _∷_}
 use Rattle.exact.specs.Index.{P-ME, sum-P-ME}
 use Rattle.exact.specs.Ranges.{engines-at}
 use Rattle.ship.specs.Record.{no-engine}
+use Rattle.ship.specs.Ends.{just}
 use Rattle.ship.specs.Refusals.{first-of}
 use Rattle.ship.specs.Figures.{uses-of, engine-of, mains, figures}
 use Rattle.ship.specs.Rules.{trial-refused, tests, refusal-of}
@@ -15,10 +16,6 @@ use Rattle.ship.specs.declared.Consumption.{Consumption}
 use Rattle.ship.specs.declared.Ship.{Ship}
 use Rattle.ship.specs.declared.Refusal.the-variants.{None}
 use Rattle.ship.proofs.Figured.{accepted}
-
--- A range of one figure.
-abbrev pub just : ℕ → Range
-just n = record { low = n; high = n }
 
 abbrev pub reported : Range → ℕ → Consumption
 reported sfc fuel = record { sfc = sfc; fuel = fuel; source = 1 }

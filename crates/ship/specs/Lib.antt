@@ -1,5 +1,6 @@
 pub mod Record
 pub mod Refusals
 pub mod Figures
+pub mod Ends
 pub mod Rules
 pub mod Accepted
