@@ -41,14 +41,14 @@ bounds-whole b i e = by-length (eqb (length b) 512) refl
         let z : _≡_ {A = ℕ} 0 1 = cc in
         absurd (omega arith)
 
-pub line-bounds : (n : ℕ) (b : List ℕ) (i : Index) → Bounds i ≡ answer-of-block b
-    → bounds-line n (number-at b 4 4) (i .lower) (i .upper) ≡ line-of n b
+pub line-bounds : (n imo : ℕ) (b : List ℕ) (i : Index) → Bounds i ≡ answer-of-block b → imo ≡ number-at b 4 4
+    → bounds-line n imo (i .lower) (i .upper) ≡ line-of n b
 unfolding line-of
-line-bounds n b i e = ap (line-by n (number-at b 4 4)) e
+line-bounds n imo b i e h = rw h (ap (line-by n (number-at b 4 4)) e)
 
-pub line-refusal : (n : ℕ) (b : List ℕ) (r : Refusal) → Refused r ≡ answer-of-block b → refusal-line n (number-of r) ≡ line-of n b
+pub line-refusal : (n k : ℕ) (b : List ℕ) (r : Refusal) → Refused r ≡ answer-of-block b → k ≡ number-of r → refusal-line n k ≡ line-of n b
 unfolding line-of
-line-refusal n b r e = ap (line-by n (number-at b 4 4)) e
+line-refusal n k b r e h = rw h (ap (line-by n (number-at b 4 4)) e)
 
 -- Bytes 4–7 of an accepted block are the IMO number of its record.
 pub imo-read : (b : List ℕ) → read-refusal b ≡ None → number-at b 4 4 ≡ read-of b .ship .particulars .imo

@@ -4,15 +4,16 @@ use Prim.Native.Nat.{ℕ, zero, suc, _+_, _*_, _/_, _-_, _≤_, _<_}
 use mathlib.Core.Path.{_≡_, refl, sym, ap, ap₂, _∙_}
 use mathlib.Core.List.{List, [], _++_, append-assoc, append-nil}
 use mathlib.Core.Bool.{Bool, true, false}
+use native.Mathlib.Numerals.{add-one}
 use native.Mathlib.Omega.{arith}
-use borrow.Author.Tests.{ltb-true}
+use borrow.Author.Tests.{ltb-true, le-leb, lt-leb}
 use lib.Dec.{ltb}
 use lib.ListN.{length, take, drop, length-append, length-drop}
 use lib.Seq.{take-all, take-append-le, drop-append-le, drop-at, drop-drop}
 use Rattle.exact.specs.Index.{if}
 use Rattle.lines.specs.Digits.{Put}
-use Rattle.lines.specs.Lines.{line-of, piece, pieces, lines-to, lines-of}
-use Rattle.lines.proofs.Putting.{put-put}
+use Rattle.lines.specs.Lines.{line-of, piece, pieces, lines-to, lines-of, lines-within}
+use Rattle.lines.proofs.Putting.{put-put, put-none, put-as}
 
 -- What is lent as piece i is piece i.
 pub piece-is : (b : List ℕ) (at to : ℕ) → to ≡ if (ltb (length b - at) 512) (length b) (at + 512) → take (to - at) (drop at b) ≡ take 512 (drop at b)
@@ -27,9 +28,24 @@ piece-is b at to e = by-rest (ltb (length b - at) 512) refl e
 
 -- One line more.
 pub next-line : {out mid after : List ℕ} {end next : ℕ} (n : ℕ) (b : List ℕ) (i : ℕ)
-    → Put out 0 (lines-to n b i) mid end → Put mid end (line-of (n + i) (piece i b)) after next → Put out 0 (lines-to n b (suc i)) after next
+    → Put out 0 (lines-to n b i) mid end → Put mid end (line-of (n + i) (piece i b)) after next → Put out 0 (lines-to n b (i + 1)) after next
 unfolding lines-to
-next-line n b i p q = put-put p q
+next-line n b i p q = rw add-one (put-put p q)
+
+-- With no line there is nothing.
+pub no-line : (out : List ℕ) (n : ℕ) (b : List ℕ) → Put out 0 (lines-to n b 0) out 0
+unfolding lines-to
+no-line out n b = put-none out 0 (omega arith)
+
+-- With and without room.
+pub with-room : {out after : List ℕ} {end : ℕ} (n : ℕ) (b : List ℕ) (k : ℕ) → k ≡ pieces b → k * 84 ≤ length out
+    → Put out 0 (lines-to n b k) after end → Put out 0 (lines-within out n b) after end
+unfolding lines-within lines-of
+with-room {out} n b k e h p = put-as (ap (lines-to n b) e ∙ rw (le-leb (pieces b * 84) (length out) (omega arith))) p
+
+pub no-room : (out : List ℕ) (n : ℕ) (b : List ℕ) (k : ℕ) → k ≡ pieces b → length out / 84 < k → Put out 0 (lines-within out n b) out 0
+unfolding lines-within
+no-room out n b k e h = rw (lt-leb (pieces b * 84) (length out) (omega arith)) (put-none out 0 (omega arith))
 
 -- A file read in two goes, the first of k whole blocks, has the lines of both.
 module _ (n k : ℕ) (a b : List ℕ) (whole : length a ≡ k * 512) where

@@ -1,7 +1,7 @@
 -- Laws of bytes put into a buffer, one after the other.
 -- Assumes nothing.
 use Prim.Native.Nat.{ℕ, suc, _+_, _-_, _≤_, _<_}
-use mathlib.Core.Path.{_≡_, refl, sym, ap, ap₂, _∙_}
+use mathlib.Core.Path.{_≡_, refl, sym, ap, ap₂, subst, _∙_}
 use mathlib.Core.List.{List, [], _∷_, _++_, append-assoc}
 use native.Mathlib.Numerals.{add-one}
 use native.Mathlib.Omega.{arith}
@@ -64,6 +64,22 @@ part-put a xs at end n h k =
 -- One byte stored.
 pub byte-put : (a : List ℕ) (at y : ℕ) → at < length a → Put a at (y ∷ []) (set a at y) (at + 1)
 byte-put a at y h = record { bytes = rw add-one (set-split a at y h); place = omega arith; room = omega arith }
+
+-- The same bytes by another name.
+pub put-as : {a c xs ys : List ℕ} {at e : ℕ} → xs ≡ ys → Put a at xs c e → Put a at ys c e
+put-as {a} {c} {xs} {ys} {at} {e} h p = subst (λ (l : List ℕ). Put a at l c e) h p
+
+-- A text over a part.
+pub text-put : (a xs ys : List ℕ) (at w : ℕ) → ys ≡ xs → w ≡ length xs → at + w ≤ length a → Put a at xs (putMid at (at + w - at) a ys) (at + w)
+text-put a xs ys at w e n h = rw e (part-put a xs at (at + w) (omega arith) (omega arith) (omega arith))
+
+-- A text over a part, and a byte after it.
+pub text-byte-put : (a xs ys : List ℕ) (at w y : ℕ) → ys ≡ xs → w ≡ length xs → at + w < length a
+    → Put a at (xs ++ (y ∷ [])) (set (putMid at (at + w - at) a ys) (at + w) y) (at + w + 1)
+text-byte-put a xs ys at w y e n h =
+    let p : Put a at xs (putMid at (at + w - at) a ys) (at + w) = text-put a xs ys at w e n (omega arith) in
+    let m : length (putMid at (at + w - at) a ys) ≡ length a = ap length (p .bytes) ∙ over-length a xs at (p .room) in
+    put-put p (byte-put (putMid at (at + w - at) a ys) (at + w) y (omega arith))
 
 -- ── A text copied byte by byte ──────────────────────────────────────────────────────────────
 

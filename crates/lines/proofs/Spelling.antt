@@ -125,7 +125,7 @@ last-spelled (suc f) n h = by-size (ltb n 10) refl (last-spelled f (n / 10) (ome
     by-size true e ih = let z : n % 10 ≡ n = omega (arith, ltb-true n 10 e) in rw z
     by-size false e ih =
         let c : length (spelled f (n / 10) ++ (digit (n % 10) ∷ [])) ≡ suc (length (spelled f (n / 10)))
-            = length-append (spelled f (n / 10)) (digit (n % 10) ∷ []) ∙ add-one (length (spelled f (n / 10))) in
+        = length-append (spelled f (n / 10)) (digit (n % 10) ∷ []) ∙ add-one (length (spelled f (n / 10))) in
         rw c (ap (λ (l : List ℕ). l ++ (digit (n % 10) ∷ [])) ih)
 
 pub decimal-last : (n : ℕ) → decimal n ≡ last-digits (length (decimal n)) n

@@ -51,6 +51,7 @@ fn put_line(out: &mut [u8], at: usize, n: u64, block: &[u8]) -> usize
 fn piece_end(at: usize, size: usize) -> usize
     requires { ⌜ at ≤ size ⌝ }
     ensures { λ r. ⌜ r ≡ if (ltb (size - at) 512) size (at + 512) ⌝ }
+    ensures { λ r. ⌜ (at ≤ r) × (r ≤ size) ⌝ }
 {
     if size - at < 512 {
         return size;
