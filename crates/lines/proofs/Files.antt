@@ -9,7 +9,7 @@ use native.Mathlib.Omega.{arith}
 use borrow.Author.Tests.{ltb-true, le-leb, lt-leb}
 use lib.Dec.{ltb}
 use lib.ListN.{length, take, drop, length-append, length-drop}
-use lib.Seq.{take-all, take-append-le, drop-append-le, drop-at, drop-drop}
+use lib.Seq.{take-all, take-append-le, drop-append-le, take-at, drop-at, drop-drop}
 use Rattle.exact.specs.Index.{if}
 use Rattle.lines.specs.Digits.{Put}
 use Rattle.lines.specs.Lines.{line-of, piece, pieces, lines-to, lines-of, lines-within}
@@ -77,3 +77,13 @@ module _ (n k : ℕ) (a b : List ℕ) (whole : length a ≡ k * 512) where
       let p : pieces a ≡ k = omega arith in
       let q : pieces (a ++ b) ≡ k + pieces b = rw (length-append a b) (omega arith) in
       rw (q, p) (back (pieces b))
+
+-- Where there is room, the first `end` bytes of the buffer are the lines.
+pub lines-front : {out after : List ℕ} {end : ℕ} (n : ℕ) (b : List ℕ) → pieces b * 84 ≤ length out → Put out 0 (lines-within out n b) after end
+    → take end after ≡ lines-of n b
+unfolding lines-within
+lines-front {out} {after} {end} n b h p =
+    let w : lines-within out n b ≡ lines-of n b = rw (le-leb (pieces b * 84) (length out) h) in
+    let q : Put out 0 (lines-of n b) after end = put-as w p in
+    let k : length (lines-of n b) ≡ end = omega (arith, q .place) in
+    rw (q .bytes) (take-at (lines-of n b) _ end k)
