@@ -21,8 +21,7 @@ unfolding spelled
 enough zero zero n h k = refl
 enough zero (suc g) n h k = rw (lt-ltb n 10 (omega arith))
 enough (suc f) zero n h k = rw (lt-ltb n 10 (omega arith))
-enough (suc f) (suc g) n h k =
-    ap (λ (xs : List ℕ). if (ltb n 10) (digit n ∷ []) (xs ++ (digit (n % 10) ∷ []))) (enough f g (n / 10) (omega arith) (omega arith))
+enough (suc f) (suc g) n h k = rw (enough f g (n / 10) (omega arith) (omega arith))
 
 pub decimal-small : (n : ℕ) → n < 10 → decimal n ≡ digit n ∷ []
 unfolding decimal spelled
