@@ -1,0 +1,4 @@
+pub mod Spelling
+pub mod Putting
+pub mod Answered
+pub mod Files

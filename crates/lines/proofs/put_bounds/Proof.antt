@@ -1,0 +1,45 @@
+-- `lines::put_bounds` meets its contract.
+-- Assumes nothing.
+use native.Mathlib.Omega.{arith}
+use Rattle.lines.proofs.Putting.{put-put}
+use borrow.Author.Needs.{needs}
+use Rattle.lines.proofs.put_bounds.Statement.{statement}
+use Rattle.lines.proofs.put_bounds.Tie as tie
+
+put-number-requires : tie.Need-put-number-requires
+put-number-requires c κs = search needs
+
+put-number-requires-2 : tie.Need-put-number-requires-2
+put-number-requires-2 c κs = search needs
+
+put-number-requires-3 : tie.Need-put-number-requires-3
+put-number-requires-3 c κs = search needs
+
+put-number-requires-4 : tie.Need-put-number-requires-4
+put-number-requires-4 c κs = search needs
+
+same-length : tie.Need-same-length
+same-length c = search needs
+
+returns : tie.Need-returns
+returns c =
+    let upper = c .before .before in
+    let lower = upper .before .before .before .before in
+    let imo = lower .before .before .before .before in
+    let number = imo .before .before .before .before in
+    let p = number .put-number .ensures in
+    let q = imo .put-number2 .ensures in
+    let r = lower .put-number3 .ensures in
+    let s = upper .put-number4 .ensures in
+    (put-put (p .0) (put-put (q .0) (put-put (r .0) (s .0))), omega (arith, p .1, q .1, r .1, s .1))
+
+pub put-bounds-spec : {M : Type 1} → statement M
+put-bounds-spec =
+    tie.close
+    (tie.spec
+    put-number-requires
+    put-number-requires-2
+    put-number-requires-3
+    put-number-requires-4
+    same-length
+    returns)
