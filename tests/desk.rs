@@ -18,7 +18,7 @@ pub enum Answer {
     // Method 1 and f_c = 1: the exact fraction's floor and ceiling.
     Exact { imo: u32, lower: u64, upper: u64 },
     // The index of the most and of the least favourable ship, in millionths.
-    Near { imo: u32, favourable: f64, least: f64 },
+    Near { imo: u32, favourable: f64, least: f64, ranged: bool },
 }
 
 #[derive(Clone, Copy, Default, Debug)]
@@ -320,9 +320,9 @@ pub fn answer(block: &[u8]) -> Answer {
         let (whole, left) = divide(fraction(&ship, 1));
         return Answer::Exact { imo, lower, upper: whole + left as u64 };
     }
-    let favourable = near_index(&ship, 0);
-    let least = if ship.has_ranges() { near_index(&ship, 1) } else { favourable };
-    Answer::Near { imo, favourable, least }
+    let (favourable, ranged) = (near_index(&ship, 0), ship.has_ranges());
+    let least = if ranged { near_index(&ship, 1) } else { favourable };
+    Answer::Near { imo, favourable, least, ranged }
 }
 
 fn push_number(line: &mut Vec<u8>, mut number: u64) {
@@ -350,7 +350,7 @@ pub fn push_line(text: &mut Vec<u8>, number: usize, answer: Answer) {
             return;
         }
         Answer::Exact { imo, lower, upper } => (imo, lower, upper),
-        Answer::Near { imo, favourable, least } => {
+        Answer::Near { imo, favourable, least, .. } => {
             (imo, (favourable * (1.0 - DOUBLE_ERROR)).floor() as u64, (least * (1.0 + DOUBLE_ERROR)).ceil() as u64)
         }
     };
