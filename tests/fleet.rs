@@ -5,6 +5,8 @@
 mod breaks;
 #[path = "desk.rs"]
 mod desk;
+#[path = "edges.rs"]
+mod edges;
 #[path = "hold.rs"]
 mod hold;
 #[path = "program.rs"]
@@ -13,6 +15,7 @@ mod program;
 mod ships;
 
 use desk::{Answer, BLOCK, MOST_BLOCKS};
+use edges::*;
 use ships::*;
 use std::process::exit;
 use std::thread::spawn;
@@ -129,6 +132,8 @@ fn blocks(random: &mut Random) -> Vec<Block> {
     at_aux_power(random, &mut all);
     at_limits(random, &mut all);
     at_trials(random, &mut all);
+    at_whole_index(random, &mut all);
+    at_extremes(random, &mut all);
     damaged(random, 15_000, &mut all);
     random_bytes(random, 10_000, &mut all);
     for (block, rule) in breaks::broken(random, 150) {
@@ -147,6 +152,7 @@ fn blocks(random: &mut Random) -> Vec<Block> {
 struct Count {
     accepted: [[u64; 5]; 8],
     light: [[u64; 5]; 8],
+    whole: u64,
     exact: u64,
     near: u64,
     exact_ranged: u64,
@@ -163,6 +169,9 @@ impl Count {
         let (kind, method) = (ship.kind as usize, ship.method as usize);
         self.accepted[kind][method] += 1;
         self.light[kind][method] += ship.has_light_cargo() as u64;
+        if let Answer::Exact { lower, upper, .. } = answer {
+            self.whole += (lower == upper) as u64;
+        }
         match (answer, ship.has_ranges()) {
             (Answer::Exact { .. }, true) => self.exact_ranged += 1,
             (Answer::Exact { .. }, false) => self.exact += 1,
@@ -183,6 +192,7 @@ impl Count {
         for rule in 1..17 {
             want(format!("refusal {}", rule), self.refused[rule], 500);
         }
+        want("exact and whole".to_string(), self.whole, 300);
         for (what, count) in &[("exact", self.exact), ("exact ranged", self.exact_ranged), ("near", self.near), ("near ranged", self.near_ranged)] {
             want(what.to_string(), *count, 3_000);
         }
@@ -194,7 +204,8 @@ impl Count {
             println!("fleet: type {} accepted by methods 1-4: {}", kind, by_method.join(" "));
         }
         let light: u64 = self.light.iter().flatten().sum();
-        println!("fleet: exact {} and ranged {}; near {} and ranged {}; light cargo {}", self.exact, self.exact_ranged, self.near, self.near_ranged, light);
+        println!("fleet: exact {} and ranged {}, {} of them whole", self.exact, self.exact_ranged, self.whole);
+        println!("fleet: near {} and ranged {}; light cargo {}", self.near, self.near_ranged, light);
         let refused: Vec<String> = (1..17).map(|rule| format!("{}: {}", rule, self.refused[rule])).collect();
         println!("fleet: refused by {}", refused.join(", "));
     }
