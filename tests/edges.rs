@@ -160,7 +160,8 @@ pub fn at_trials(random: &mut Random, out: &mut Vec<Block>) {
                 draw_trial(&mut ship, random);
             }
             let (power, size) = (main_power(&ship), capacity(&ship));
-            for (field, figure) in [(TRIAL_POWER, power / 20), (TRIAL_POWER, power / 500), (TRIAL_DEADWEIGHT, size / 2), (TRIAL_DEADWEIGHT, size / 50)].iter() {
+            let ends = [(TRIAL_POWER, power / 20), (TRIAL_POWER, power / 500), (TRIAL_DEADWEIGHT, size / 2), (TRIAL_DEADWEIGHT, size / 50)];
+            for (field, figure) in ends.iter() {
                 for value in figure - 1.min(*figure)..figure + 3 {
                     let mut block = ship;
                     put(&mut block, TRIAL_DEADWEIGHT, if method == 3 { size / 10 } else { 0 });

@@ -1,4 +1,5 @@
 // Holds printed lines to the reference, and shows beforehand that wrong lines are caught.
+#![allow(dead_code)]
 use desk::{push_line, Answer, DOUBLE_ERROR};
 
 // The bounds may be apart by a hundred-thousandth of the upper one, plus 2. So far, then, may either be from the index:
