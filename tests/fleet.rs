@@ -255,9 +255,12 @@ fn all_lines(program: &[String], all: &[Block], count: &mut Count) -> (Vec<Strin
     bytes.extend(&ship_s()[..300]);
     let most = MOST_BLOCKS * BLOCK;
     let (mut lines, mut wrong) = run(program, "a file with too many blocks", &bytes[..most + 3 * BLOCK + 100], How::File, count);
+    // The sample was written by another hand than these blocks; the test runs in the repository's root.
+    let sample = std::fs::read("sample/fleet.blocks").unwrap_or_else(|_| fail("sample/fleet.blocks cannot be read from here"));
     for (name, input, how) in vec![
         ("a pipe with too many blocks that stays open", &bytes[most..2 * most + 70_000], How::OpenPipe),
         ("a pipe", &bytes[2 * most..], How::Pipe),
+        ("the sample", &sample[..], How::File),
     ] {
         let (more, faults) = run(program, name, input, how, count);
         lines.extend(more);
