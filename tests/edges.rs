@@ -285,3 +285,21 @@ fn put_extreme_trial(block: &mut Block, random: &mut Random) {
     put(block, TRIAL_POWER, if method == 2 || method == 3 { trial } else { 0 });
     put(block, TRIAL_DEADWEIGHT, if method == 3 { random.pick(&[(size + 49) / 50, size / 2]) } else { 0 });
 }
+
+// Trial power at the end of its field, which only ships of more than 120,000 kW come near.
+pub fn at_largest_trials(random: &mut Random, out: &mut Vec<Block>) {
+    for (kind, method) in kinds().into_iter().filter(|(_, method)| *method == 2 || *method == 3) {
+        for count in 2..5 {
+            for power in 599_998..600_003 {
+                let mut block = draw(random, kind, method, false);
+                put_total(&mut block, random, 10_000, count);
+                for engine in 0..count as usize {
+                    put_both(&mut block, mcr(engine), random.from(100_000, 120_000));
+                    put(&mut block, limit(engine), 0);
+                }
+                put(&mut block, TRIAL_POWER, power);
+                out.push(sealed(block));
+            }
+        }
+    }
+}

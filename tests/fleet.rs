@@ -132,6 +132,7 @@ fn blocks(random: &mut Random) -> Vec<Block> {
     at_aux_power(random, &mut all);
     at_limits(random, &mut all);
     at_trials(random, &mut all);
+    at_largest_trials(random, &mut all);
     at_whole_index(random, &mut all);
     at_extremes(random, &mut all);
     damaged(random, 15_000, &mut all);
