@@ -1,0 +1,146 @@
+// Ways to break each rule of the refusals' table. Each is written from its row alone and leaves the earlier rules kept,
+// so the number that a broken ship must get is known without any reference.
+use ships::*;
+
+fn used(block: &Block, random: &mut Random) -> usize {
+    random.from(0, get(block, ENGINES).max(1).min(4) - 1) as usize
+}
+
+fn break_sizes(block: &mut Block, random: &mut Random, rule: u64) {
+    let kind = get(block, TYPE);
+    match (rule, kind) {
+        (6, _) => put(block, DEADWEIGHT, random.pick(&[0, 99, 600_001, 0xffff_ffff])),
+        (7, 7) => put(block, GROSS_TONNAGE, random.pick(&[0, 99, 400_001, 0x8000_0000])),
+        (7, _) => put(block, GROSS_TONNAGE, random.pick(&[1, 256, 0x0100_0000])),
+        (_, 1) => put(block, CARGO_VOLUME, random.pick(&[0, 99, 1_000_001, 0x8000_0000])),
+        _ => put(block, CARGO_VOLUME, random.pick(&[1, 256, 0x0100_0000])),
+    }
+}
+
+fn break_engine(block: &mut Block, random: &mut Random) {
+    let engine = used(block, random);
+    let low = get(block, mcr(engine)[0]);
+    match random.from(0, 3) {
+        0 => put(block, ENGINES, random.pick(&[0, 5, 255])),
+        1 => put(block, mcr(engine)[0], random.pick(&[0, 99, 120_001])),
+        2 => put(block, mcr(engine)[1], random.pick(&[0, 99, 120_001])),
+        _ => put(block, limit(engine), random.pick(&[1, 99, low + 1, 0xffff_ffff])),
+    }
+}
+
+fn break_consumption(block: &mut Block, random: &mut Random) {
+    let engine = if random.one_in(2) { 4 } else { used(block, random) };
+    let (ends, fuel, source) = consumption(engine);
+    let told = random.from(1, 2);
+    match random.from(0, 5) {
+        0 => put(block, source, random.pick(&[0, 4, 255])),
+        1 => put_consumption(block, engine, [random.pick(&[0, 499]), 2_000], 1, told),
+        2 => put_consumption(block, engine, [2_000, random.pick(&[4_001, 65_535])], 1, told),
+        3 => put_consumption(block, engine, [2_000, 2_000], random.pick(&[0, 9, 255]), told),
+        // The empty consumption cell of the first release.
+        4 => put_consumption(block, engine, [0, 0], 3, 1),
+        _ => {
+            put_consumption(block, engine, [0, 0], 0, 3);
+            put(block, random.pick(&[ends[0], ends[1], fuel]), 1);
+        }
+    }
+}
+
+fn break_auxiliary(block: &mut Block, random: &mut Random) {
+    let (method, power) = random.pick(&[(0, 0), (3, 0), (1, 1), (1, 50_000), (2, 0), (2, 50_001), (2, 0x8000_0001)]);
+    put(block, AUX_METHOD, method);
+    put(block, TABLE_POWER, power);
+}
+
+fn break_speed(block: &mut Block, random: &mut Random) {
+    let end = random.pick(&SPEED);
+    match (get(block, METHOD), get(block, TYPE)) {
+        (_, 2) | (_, 5) | (_, 6) | (_, 7) if random.one_in(3) => put(block, METHOD, 3),
+        _ if random.one_in(3) => put(block, METHOD, random.pick(&[0, 5, 255])),
+        (4, _) => put(block, end, random.pick(&[1, 500, 0x0100_0000])),
+        _ => put(block, end, random.pick(&[0, 499, 6_001, 0xffff_ffff])),
+    }
+}
+
+fn break_range(block: &mut Block, random: &mut Random) {
+    let engine = used(block, random);
+    let power = random.from(101, 119_999);
+    let method = get(block, METHOD);
+    match random.from(0, 3) {
+        0 => put_consumption(block, random.pick(&[4, engine]), [2_000, 1_999], 1, 1),
+        1 if method != 4 => {
+            let above = method == 1 || random.one_in(2);
+            put(block, SPEED[0], if above { 1_501 } else { 1_500 });
+            put(block, SPEED[1], if above { 1_500 } else { 1_501 });
+        }
+        choice => {
+            let above = method == 1 || choice == 2;
+            put(block, mcr(engine)[0], power);
+            put(block, mcr(engine)[1], if above { power - 1 } else { power + 1 });
+            put(block, limit(engine), 0);
+        }
+    }
+}
+
+fn break_trial(block: &mut Block, random: &mut Random) {
+    let (power, size) = (main_power(block), capacity(block));
+    match get(block, METHOD) {
+        1 | 4 => put(block, random.pick(&[TRIAL_POWER, TRIAL_DEADWEIGHT]), random.pick(&[1, 256, 0x0100_0000])),
+        2 if random.one_in(2) => put(block, TRIAL_DEADWEIGHT, random.pick(&[1, 0x0100_0000])),
+        3 if random.one_in(2) => put(block, TRIAL_DEADWEIGHT, random.pick(&[0, (size - 1) / 50, size / 2 + 1, 0xffff_ffff])),
+        _ => put(block, TRIAL_POWER, random.pick(&[0, 600_001, 0xffff_ffff, (power - 1) / 500, power / 20 + 1])),
+    }
+}
+
+fn break_zeros(block: &mut Block, random: &mut Random) {
+    let count = get(block, ENGINES).min(4) as usize;
+    let engine = 20 * used(block, random);
+    let unused = random.from(52 + 20 * count as u64, 507) as usize;
+    let at = random.pick(&[49, 50, 51, 132, 507, unused, unused.min(131), 70 + engine, 71 + engine]);
+    block[at] = random.from(1, 255) as u8;
+}
+
+// Breaks rule 3 to 16; rule 2 is broken after sealing, rule 1 by cutting the file.
+fn break_rule(block: &mut Block, random: &mut Random, rule: u64) {
+    let imo = get(block, IMO);
+    match rule {
+        3 => put(block, LAYOUT, random.pick(&[0, 2, 0x101, 0x100])),
+        4 => put(block, IMO, random.pick(&[imo / 10 * 10 + (imo + random.0 % 9 + 1) % 10, imo_of(imo / 100), imo_of(imo)])),
+        5 => put(block, TYPE, random.pick(&[0, 8, 255])),
+        6 | 7 | 8 => break_sizes(block, random, rule),
+        9 => break_engine(block, random),
+        10 => break_consumption(block, random),
+        11 => break_auxiliary(block, random),
+        12 => put(block, ICE, random.pick(&[2, 3, 255])),
+        13 => break_speed(block, random),
+        14 => break_range(block, random),
+        15 => break_trial(block, random),
+        _ => break_zeros(block, random),
+    }
+}
+
+// Ships that break one rule, and ships that break two: the first one's number is the answer.
+pub fn broken(random: &mut Random, each: usize) -> Vec<(Block, u8)> {
+    let mut all = Vec::new();
+    for first in 2..17 {
+        for second in first..17 {
+            for _ in 0..each {
+                let (kind, method) = random.pick(&kinds());
+                let mut block = draw(random, kind, method, random.0 & 1 == 0);
+                if second > first {
+                    break_rule(&mut block, random, second);
+                }
+                if first > 2 {
+                    break_rule(&mut block, random, first);
+                }
+                seal(&mut block);
+                if first == 2 {
+                    let at = random.from(508, 511) as usize;
+                    block[at] ^= random.from(1, 255) as u8;
+                }
+                all.push((block, first as u8));
+            }
+        }
+    }
+    all
+}
