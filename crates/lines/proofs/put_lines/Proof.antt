@@ -1,6 +1,5 @@
 -- `lines::put_lines` meets its contract.
 -- Assumes nothing.
-use mathlib.Core.Path.{refl}
 use native.Mathlib.Omega.{arith}
 use Rattle.lines.proofs.Files.{with-room, no-room}
 use borrow.Author.Needs.{needs}
