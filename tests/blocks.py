@@ -1,7 +1,8 @@
 #!/usr/bin/env python3
-"""Cases for the programs `blocks` and `files`, from document 01 alone: the block's table, the table of refusals, the writer.
+"""Cases for the programs `blocks`, `files` and `fleet`, from document 01 alone: the block's table, the table of refusals, the
+writer, and the whole output that it states for `fleet`.
 
-    tests/blocks.py            writes stdin and stdout of both programs
+    tests/blocks.py            writes stdin and stdout of the programs
     tests/blocks.py --check    says whether the stored ones are these
 
 Each case states by hand which refusal the document gives. A second reading of the table, `refusal` below, has to agree before
@@ -380,6 +381,8 @@ MADE = {
     "blocks/stdout": "".join(f"{wanted}\n" for wanted, _ in cases).encode(),
     "files/stdin": b"".join(given for given, _ in writes),
     "files/stdout": "".join(line for _, line in writes).encode(),
+    "fleet/stdin": block(S) + bytes(512),
+    "fleet/stdout": b"0 9074729 5170857 5170858\n1 refused 2\n",
 }
 given = {wanted for wanted, _ in cases}
 assert given == set(range(17)), given

@@ -1,7 +1,7 @@
 -- Laws of bytes put into a buffer, one after the other.
 -- Assumes nothing.
-use Prim.Native.Nat.{ℕ, suc, _+_, _-_, _≤_, _<_}
-use mathlib.Core.Path.{_≡_, refl, sym, ap, ap₂, subst, _∙_}
+use Prim.Native.Nat.{ℕ, _+_, _-_, _≤_, _<_}
+use mathlib.Core.Path.{_≡_, sym, ap, ap₂, subst, _∙_}
 use mathlib.Core.List.{List, [], _∷_, _++_, append-assoc}
 use native.Mathlib.Numerals.{add-one}
 use native.Mathlib.Omega.{arith}
@@ -14,7 +14,7 @@ module _ (a xs : List ℕ) (at : ℕ) (h : at + length xs ≤ length a) where
   over-length : length (over a at xs) ≡ length a
   over-length =
       let t : length (take at a) ≡ at = length-take-le at a (omega arith) in
-      rw (length-append (take at a) (xs ++ drop (at + length xs) a), length-append xs (drop (at + length xs) a), t, length-drop (at + length xs) a) (omega arith)
+      simp (length-append, length-drop) (omega arith)
 
   over-over : (ys : List ℕ) → over (over a at xs) (at + length xs) ys ≡ over a at (xs ++ ys)
   over-over ys =

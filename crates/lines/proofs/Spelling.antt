@@ -9,7 +9,7 @@ use native.Mathlib.Numerals.{add-one}
 use native.Mathlib.Omega.{arith}
 use borrow.Author.Tests.{ltb-true, ltb-false, lt-ltb, le-ltb}
 use lib.Dec.{ltb}
-use lib.ListN.{length, getD, drop, set, length-append, length-set, drop-of-length-le}
+use lib.ListN.{length, drop, set, length-append, length-set, drop-of-length-le}
 use lib.Seq.{drop-cons, drop-set-lt, getD-set-same, append-snoc}
 use Rattle.exact.specs.Index.{if}
 use Rattle.lines.specs.Digits.{digit, spelled, decimal}

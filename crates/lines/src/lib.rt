@@ -8,11 +8,12 @@ use index::Index;
 ghost use mathlib.Core.Path.{_≡_};
 ghost use Prim.Native.Nat.{_+_, _-_, _*_, _≤_, _<_};
 ghost use lib.Dec.{ltb};
-ghost use Rattle.exact.specs.Index.{if};
 ghost use lib.ListN.{length};
+ghost use Rattle.exact.specs.Index.{if};
 ghost use Rattle.lines.specs.Digits.{Put};
 ghost use Rattle.lines.specs.Lines.{bounds-line, refusal-line, line-of, pieces, lines-to, lines-within};
 
+// Number, IMO number, lower, upper. The longest line has four numbers of 20 digits, each with a byte behind it: 84 bytes.
 fn put_bounds(out: &mut [u8], at: usize, n: u64, imo: u64, bounds: Index) -> usize
     requires { ⌜ at + 84 ≤ length (now out) ⌝ }
     ensures { λ r. ⌜ Put (now (out .entry)) at (bounds-line n imo (bounds .lower) (bounds .upper)) (now (out .exit)) r ⌝ }
@@ -24,6 +25,7 @@ fn put_bounds(out: &mut [u8], at: usize, n: u64, imo: u64, bounds: Index) -> usi
     put_number(out, c, bounds.upper, b'\n')
 }
 
+// Number, `refused`, refusal number.
 fn put_refusal(out: &mut [u8], at: usize, n: u64, refusal: u64) -> usize
     requires { ⌜ at + 84 ≤ length (now out) ⌝ }
     ensures { λ r. ⌜ Put (now (out .entry)) at (refusal-line n refusal) (now (out .exit)) r ⌝ }
@@ -59,6 +61,7 @@ fn piece_end(at: usize, size: usize) -> usize
     at + 512
 }
 
+// The lines of all the pieces, one after the other.
 fn put_pieces(out: &mut [u8], first: u64, bytes: &[u8], count: usize) -> usize
     requires { ⌜ (first < 4294967296) × (count ≡ pieces (now bytes)) × (count * 84 ≤ length (now out)) ⌝ }
     ensures { λ r. ⌜ Put (now (out .entry)) 0 (lines-to first (now (bytes .entry)) count) (now (out .exit)) r ⌝ }

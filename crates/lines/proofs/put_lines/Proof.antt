@@ -1,6 +1,5 @@
 -- `lines::put_lines` meets its contract.
 -- Assumes nothing.
-use mathlib.Core.Path.{refl}
 use native.Mathlib.Omega.{arith}
 use Rattle.lines.proofs.Files.{with-room, no-room}
 use borrow.Author.Needs.{needs}
@@ -14,7 +13,7 @@ add-count-2 : tie.Need-add-count-2
 add-count-2 c = search needs
 
 returns : tie.Need-returns
-returns c = no-room _ _ _ _ (omega arith) (c .if1 .taken)
+returns c = no-room _ _ _ (omega arith)
 
 put-pieces-requires : tie.Need-put-pieces-requires
 put-pieces-requires c κs = search needs

@@ -4,7 +4,6 @@ use Prim.Native.Nat.{_+_, _*_, _≤_, _-_}
 use mathlib.Core.Path.{_≡_, refl, ap, _∙_}
 use lib.ListN.{length}
 use native.Mathlib.Omega.{arith}
-use borrow.Author.Needs.{needs}
 use Rattle.lines.specs.Digits.{Put}
 use Rattle.lines.specs.Lines.{lines-to, line-of}
 use Rattle.lines.proofs.Putting.{put-as}

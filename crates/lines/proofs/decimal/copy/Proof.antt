@@ -1,9 +1,8 @@
 -- `lines::decimal::copy` meets its contract.
 -- Assumes nothing.
 use Prim.Native.Nat.{_≤_, _-_}
-use mathlib.Core.Path.{_≡_, refl, sym, _∙_}
-use mathlib.Core.List.{_++_}
-use lib.ListN.{length, take, drop, length-set}
+use mathlib.Core.Path.{_≡_, refl}
+use lib.ListN.{length, take, length-set}
 use native.Mathlib.Omega.{arith}
 use Rattle.lines.proofs.Putting.{copied-again, copied-end}
 use Rattle.lines.proofs.decimal.copy.Statement.{statement}
