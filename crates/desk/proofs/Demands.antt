@@ -4,12 +4,15 @@
 use Prim.Native.Nat.{ℕ, _+_, _*_, _^_, _≤_, _<_}
 use mathlib.Core.Path.{_≡_, refl, sym, ap, _∙_}
 use mathlib.Core.List.{List, _∷_}
+use native.Mathlib.Nat.{lt-of-le-of-lt}
+use native.Mathlib.Omega.{arith}
 use lib.ListN.{length}
 use borrow.Author.Tests.{ne-eqb}
-use Rattle.exact.specs.Formula.{_//_, below, above, bounds, Enclosed}
+use Rattle.exact.specs.Formula.{_//_, Formula, below, above, bounds, Enclosed}
 use Rattle.exact.specs.Ship.{declared, Figures}
 use Rattle.exact.specs.Ranges.{Range, Inside, Narrowed, Stands-for, most-favourable, least-favourable}
 use Rattle.exact.specs.Index.{whole, f-c, speed, index}
+use Rattle.exact.proofs.Formulas.{consistent}
 use Rattle.exact.proofs.Favour.{stands-most, stands-least, inside-enclosed}
 use Rattle.ship.specs.Figures.{figures}
 use Rattle.ship.specs.Refusals.{number-of}
@@ -125,9 +128,15 @@ module _ {s : Ship} {f : Figures ℕ} (t : Taken s) (one : Stands-for (figures s
   pub speed-enclosed : Speed (speed f) (speed-of f)
   speed-enclosed = rw (stands-most one) at (law.speed-is false (ranges-kept t))
 
+-- What encloses one index is in order.
+in-order : {e : Formula} {n m : ℕ} → Enclosed e (n // 1000000) (m // 1000000) → n ≤ m
+in-order {e} h = omega (arith, consistent e (h .low) (h .high) .cross)
+
 -- Both bounds are below 2^53.
-pub bounds-small : {s : Ship} → Taken s → upper s < 2 ^ 53
-bounds-small t = rw (upper-is t) (law.small true (ranges-kept t))
+pub bounds-small : {s : Ship} → Taken s → (lower s < 2 ^ 53) × (upper s < 2 ^ 53)
+bounds-small t =
+    rw (lower-is t, upper-is t)
+    (lt-of-le-of-lt (in-order (law.encloses false (ranges-kept t))) (law.small false (ranges-kept t)), law.small true (ranges-kept t))
 
 -- A ship written to a block reads back as the same ship; an accepted block written again has the same bytes.
 pub ship-back : {s : Ship} → Taken s → read-of (encode s) ≡ loaded None s
