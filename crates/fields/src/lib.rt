@@ -14,16 +14,18 @@ pub struct Sums {
     pub b: u16,
 }
 
-// The two check sums of bytes, each modulo 65,536.
+// The two check sums of bytes, each modulo 65,536. A byte stays in the first sum for every step from its own to the last,
+// so the second has it that many times; with no step waiting for the one before, many bytes are summed at a time.
 pub fn check_sums(bytes: &[u8]) -> Sums
     ensures { λ r. ⌜ r ≡ sums 1 0 (now (bytes .entry)) ⌝ }
 {
     let mut a: u16 = 1;
-    let mut b: u16 = 0;
+    let mut b: u16 = (bytes.len() % 65536) as u16;
     let mut i = 0;
     while i < bytes.len() {
+        let times = ((bytes.len() - i) % 65536) as u32;
         a = std::num::wrapping_add_u16(a, bytes[i] as u16);
-        b = std::num::wrapping_add_u16(b, a);
+        b = std::num::wrapping_add_u16(b, (times * (bytes[i] as u32) % 65536) as u16);
         i += 1;
     }
     Sums { a, b }

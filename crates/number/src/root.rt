@@ -6,14 +6,12 @@ ghost use Rattle.number.specs.Root.{Root};
 
 // The whole square root by Newton's rule, from a start that is not below it: each turn takes the mean of r and n / r.
 pub fn square_root_from(n: u64, start: u64) -> u64
-    requires { ⌜ (0 < n) × (n < (start + 1) ^ 2) × (start < 2 ^ 32) ⌝ }
+    requires { ⌜ (n < (start + 1) ^ 2) × (start < 2 ^ 32) ⌝ }
     ensures { λ r. ⌜ Root 2 n r ⌝ }
 {
     let mut r = start;
-    let mut t = (r + n / r) / 2;
-    while t < r {
-        r = t;
-        t = (r + n / r) / 2;
+    while n < r * r {
+        r = (r + n / r) / 2;
     }
     r
 }
@@ -22,9 +20,6 @@ pub fn square_root_from(n: u64, start: u64) -> u64
 pub fn square_root(n: u64) -> u64
     ensures { λ r. ⌜ Root 2 n r ⌝ }
 {
-    if n == 0 {
-        return 0;
-    }
     square_root_from(n, 4294967295)
 }
 

@@ -50,33 +50,34 @@ fn evened(p: u64, e: u64) -> Square
     }
 }
 
-// The whole root of 61 or 62 bits, from the tangent at 2^61, which is nowhere below it.
-fn mantissa(n: u64) -> u64
-    requires { ⌜ (2 ^ 60 ≤ n) × (n < 2 ^ 62) ⌝ }
+// The whole root of 61 or 62 bits. One step of Newton's rule from any number is not below it; from a near one it is the root.
+fn mantissa(n: u64, near: u64) -> u64
+    requires { ⌜ (2 ^ 60 ≤ n) × (n < 2 ^ 62) × (2 ^ 30 ≤ near) × (near < 2 ^ 31) ⌝ }
     ensures { λ r. ⌜ Root 2 n r ⌝ }
 {
-    number::root::square_root_from(n, (1518500249 + n / 1518500249) / 2)
+    number::root::square_root_from(n, (near + n / near) / 2)
 }
 
-// The geometric mean of a and b, with its mantissa rounded down.
-fn mean(a: Num, b: Num) -> Num
-    requires { ⌜ Norm a × Norm b ⌝ }
+// The geometric mean of a and b, with its mantissa rounded down; the search for that starts near a given one.
+fn mean(a: Num, b: Num, near: u64) -> Num
+    requires { ⌜ (Norm a × Norm b) × (2 ^ 30 ≤ near) × (near < 2 ^ 31) ⌝ }
     ensures { λ r. ⌜ r ≡ meanOf a b ⌝ }
 {
     let s = evened(a.m * b.m, a.e + b.e);
     let n = s.n;
     let e = s.f;
-    let m = mantissa(n);
+    let m = mantissa(n, near);
     Num { m, e }
 }
 
-// The means of two pairs, the lower rounded down and the upper up.
+// The means of two pairs, the lower rounded down and the upper up. The lower's root is looked for from the middle, that of
+// 2^61, and the upper's from the lower's, which it is next to but for the first digits.
 fn means(p: Pair, y: Pair) -> Pair
     requires { ⌜ (Norm (p .lo) × Norm (p .hi)) × (Norm (y .lo) × Norm (y .hi)) ⌝ }
     ensures { λ r. ⌜ r ≡ meansOf p y ⌝ }
 {
-    let lo = mean(p.lo, y.lo);
-    let top = mean(p.hi, y.hi);
+    let lo = mean(p.lo, y.lo, 1518500249);
+    let top = mean(p.hi, y.hi, lo.m);
     let hi = Num {
         m: top.m + 1,
         e: top.e,
@@ -158,7 +159,7 @@ pub fn power(a: u64, b: u64, p: u64, q: u64) -> Bounds
     ensures { λ r. ⌜ r ≡ powerOf a b p q ⌝ }
 {
     let x = base(a, b);
-    let r = roots(x, p, q, 40);
+    let r = roots(x, p, q, 35);
     Bounds {
         lo: whole(r.lo),
         hi: whole(r.hi),

@@ -1,23 +1,35 @@
--- `fields::check_sums` meets its contract.
+-- `fields::check_sums` meets its contract: what is summed and what is ahead make the sums of all bytes.
 -- Assumes nothing.
-use Prim.Native.Nat.{_≤_, _-_}
-use mathlib.Core.Path.{_≡_, refl, sym, _∙_}
-use lib.ListN.{length, drop, drop-of-length-le}
-use borrow.Author.Needs.{needs}
-use Rattle.fields.specs.Checks.{sums}
-use Rattle.fields.proofs.Checks.{sums-step}
+use Prim.Native.Nat.{_+_, _%_, _≤_, _<_, _-_}
+use mathlib.Core.Path.{_≡_, refl}
+use native.Mathlib.Nat.{mul-le-mul}
 use native.Mathlib.Omega.{arith}
+use lib.ListN.{length, getD, drop, drop-of-length-le}
+use borrow.Author.Needs.{needs}
+use Rattle.fields.proofs.Checks.{sum, weighed, ahead, weighed-step, sums-end}
 use Rattle.fields.proofs.check_sums.Statement.{statement}
 use Rattle.fields.proofs.check_sums.Tie as tie
 
 abbrev Inv-loop : tie.InvT-loop
-Inv-loop bytes a₀ b₀ i₀ a b i = (i ≤ length bytes) × (sums a b (drop i bytes) ≡ sums 1 0 bytes)
+Inv-loop bytes a₀ b₀ i₀ a b i =
+    ((i ≤ length bytes) × (a < 65536) × (b < 65536))
+    × ((a + sum (drop i bytes)) % 65536 ≡ (1 + sum bytes) % 65536)
+    × ((b + weighed (drop i bytes)) % 65536 ≡ (length bytes + weighed bytes) % 65536)
 
 abbrev μ-loop : tie.MeasureT-loop
 μ-loop bytes a₀ b₀ i₀ a b i = length bytes - i
 
+cast-b : tie.Need-cast-b Inv-loop μ-loop
+cast-b c = search needs
+
 loop-holds : tie.Need-loop-holds Inv-loop μ-loop
-loop-holds c = (omega arith, refl)
+loop-holds c = ((omega arith, omega arith, omega arith), refl, omega arith)
+
+sub-times : tie.Need-sub-times Inv-loop μ-loop
+sub-times c = omega arith
+
+cast-times : tie.Need-cast-times Inv-loop μ-loop
+cast-times c = omega arith
 
 shared-slice-read-wrapping-add-u16 : tie.Need-shared-slice-read-wrapping-add-u16 Inv-loop μ-loop
 shared-slice-read-wrapping-add-u16 c = omega arith
@@ -27,6 +39,24 @@ cast-wrapping-add-u16 c = omega (arith, c .shared-slice-known2 .given (c .before
 
 wrapping-add-u16-requires : tie.Need-wrapping-add-u16-requires Inv-loop μ-loop
 wrapping-add-u16-requires c κs = search needs
+
+shared-slice-read-wrapping-add-u16-2 :
+    tie.Need-shared-slice-read-wrapping-add-u16-2 Inv-loop μ-loop
+shared-slice-read-wrapping-add-u16-2 c = omega arith
+
+cast-wrapping-add-u16-2 : tie.Need-cast-wrapping-add-u16-2 Inv-loop μ-loop
+cast-wrapping-add-u16-2 c = omega (arith, c .shared-slice-known3 .given (c .before .before .before .before .loop .i))
+
+mul-wrapping-add-u16 : tie.Need-mul-wrapping-add-u16 Inv-loop μ-loop
+mul-wrapping-add-u16 c =
+    let l = c .before .before .before .before in
+    let xs = l .before .before .args .bytes .now in
+    let times : (length xs - l .loop .i) % 65536 ≤ 65535 = omega arith in
+    let byte : getD xs (l .loop .i) 0 ≤ 255 = omega (arith, c .shared-slice-known3 .given (l .loop .i)) in
+    omega (arith, mul-le-mul times byte)
+
+cast-wrapping-add-u16-3 : tie.Need-cast-wrapping-add-u16-3 Inv-loop μ-loop
+cast-wrapping-add-u16-3 c = omega arith
 
 wrapping-add-u16-requires-2 : tie.Need-wrapping-add-u16-requires-2 Inv-loop μ-loop
 wrapping-add-u16-requires-2 c κs = search needs
@@ -39,17 +69,26 @@ loop-less c = omega arith
 
 loop-again : tie.Need-loop-again Inv-loop μ-loop
 loop-again c =
-    let at-loop = c .before .before .before .before in
-    let xs = at-loop .before .before .args .bytes .now in
-    let s = sums-step (at-loop .loop .a) (at-loop .loop .b) xs (at-loop .loop .i) (omega arith) in
-    (omega arith, rw (c .wrapping-add-u162 .ensures, c .before .wrapping-add-u16 .ensures) (sym s ∙ at-loop .loop .inv .1))
+    let l = c .before .before .before .before .before in
+    let xs = l .before .before .args .bytes .now in
+    let i = l .loop .i in
+    let next = ahead xs i (omega arith) in
+    let first = c .before .before .wrapping-add-u16 .ensures in
+    let second = c .wrapping-add-u162 .ensures in
+    let rest = weighed (drop (i + 1) xs) in (
+      (omega arith, omega (arith, first), omega (arith, second)),
+      rw first (omega (arith, next .0, l .loop .inv .1)),
+      rw (second, weighed-step (l .loop .b) (length xs - i) (getD xs i 0) rest, ← next .1) (l .loop .inv .2),
+    )
 
 returns : tie.Need-returns Inv-loop μ-loop
-unfolding sums
 returns c =
-    let xs = c .before .before .before .args .bytes .now in
-    let h : length xs ≤ c .before .loop .i = omega arith in
-    rw (← c .before .loop .inv .1, drop-of-length-le xs h)
+    let l = c .before in
+    let xs = l .before .before .args .bytes .now in
+    let none = drop-of-length-le xs {i = l .loop .i} (omega arith) in
+    let first : (l .loop .a + 0) % 65536 ≡ (1 + sum xs) % 65536 = rw none at (l .loop .inv .1) in
+    let second : (l .loop .b + 0) % 65536 ≡ (length xs + weighed xs) % 65536 = rw none at (l .loop .inv .2) in
+    sums-end {a = l .loop .a} {b = l .loop .b} xs (omega (arith, first)) (omega (arith, second))
 
 pub check-sums-spec : {M : Type 1} → statement M
 check-sums-spec =
@@ -57,10 +96,17 @@ check-sums-spec =
     (tie.spec
     Inv-loop
     μ-loop
+    cast-b
     loop-holds
+    sub-times
+    cast-times
     shared-slice-read-wrapping-add-u16
     cast-wrapping-add-u16
     wrapping-add-u16-requires
+    shared-slice-read-wrapping-add-u16-2
+    cast-wrapping-add-u16-2
+    mul-wrapping-add-u16
+    cast-wrapping-add-u16-3
     wrapping-add-u16-requires-2
     add-i
     loop-less

@@ -11,7 +11,7 @@ use Rattle.power.proofs.mean.Tie as tie
 mul-evened : tie.Need-mul-evened
 mul-evened c =
     let at = c .before .before in
-    omega (arith, product-high (at .pre .0) (at .pre .1))
+    omega (arith, product-high (at .pre .0 .0) (at .pre .0 .1))
 
 add-evened : tie.Need-add-evened
 add-evened c = search needs
@@ -19,13 +19,13 @@ add-evened c = search needs
 evened-requires : tie.Need-evened-requires
 evened-requires c κs =
     let at = c .before .before .before .before in
-    (product-low (at .pre .0) (at .pre .1), product-high (at .pre .0) (at .pre .1), omega arith)
+    (product-low (at .pre .0 .0) (at .pre .0 .1), product-high (at .pre .0 .0) (at .pre .0 .1), omega arith)
 
 mantissa-requires : tie.Need-mantissa-requires
 mantissa-requires c κs =
     let at = c .before .before .before .before .before in
-    let h = product-evened (at .pre .0) (at .pre .1) in
-    rw (c .evened .ensures) (h .low, h .high)
+    let h = product-evened (at .pre .0 .0) (at .pre .0 .1) in
+    rw (c .evened .ensures) (h .low, h .high, at .pre .1, at .pre .2)
 
 returns : tie.Need-returns
 unfolding meanOf

@@ -11,7 +11,10 @@ mean-requires : tie.Need-mean-requires
 mean-requires c κs = search needs
 
 mean-requires-2 : tie.Need-mean-requires-2
-mean-requires-2 c κs = search needs
+mean-requires-2 c κs =
+    let at = c .before in
+    let h = mean-is (at .pre .0 .0) (at .pre .1 .0) in
+    ((at .pre .0 .1, at .pre .1 .1), rw (c .mean .ensures) (h .low), rw (c .mean .ensures) (h .high))
 
 add-t6 : tie.Need-add-t6
 add-t6 c =
