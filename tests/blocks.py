@@ -1,5 +1,5 @@
 #!/usr/bin/env python3
-"""Cases for the programs `blocks`, `files` and `fleet`, from document 01 alone: the block's table, the table of refusals, the
+"""Cases for the programs `files` and `fleet`, from document 01 alone: the block's table, the table of refusals, the
 writer, and the whole output that it states for `fleet`.
 
     tests/blocks.py            writes stdin and stdout of the programs
@@ -351,17 +351,21 @@ writes = []
 
 
 def write(size, number, piece, wanted):
+    """The ship of a piece into a file of that size, at the block of that number."""
     file = bytearray((7 * i + 3) % 251 for i in range(size))
     given = bytes(file)
-    own = refusal(piece) == 0
-    answer = 4 if not own else 17 if (number + 1) * 512 > size else 0  # a refused block has the empty record, whose IMO number is 0
+    read = refusal(piece)
+    answer = 4 if read else 17 if (number + 1) * 512 > size else 0  # a refused block has the empty record, whose IMO number is 0
     assert answer == wanted, (len(writes), wanted, answer)
     if answer == 0:
         file[number * 512:(number + 1) * 512] = piece
     a, b = sums(file)
-    writes.append((size.to_bytes(2, "little") + number.to_bytes(8, "little") + piece + given, f"{answer} {a} {b}\n"))
+    head = len(piece).to_bytes(2, "little") + size.to_bytes(2, "little") + number.to_bytes(8, "little")
+    writes.append((head + piece + given, f"{read} {answer} {a} {b}\n"))
 
 
+for wanted, piece in cases:  # every block again: an accepted one is the file's afterwards, a refused one leaves it
+    write(512, 0, piece, 4 if wanted else 0)
 for ship in (S, VEHICLE, TRIAL, DESIGN, BOXES, STATISTICAL, FOUR):
     for number in range(4):
         write(2048, number, block(ship), 0)
@@ -377,8 +381,6 @@ write(2048, 2 ** 64 - 1, block(S, ice=2), 4)
 # ── Stored ───────────────────────────────────────────────────────────────────────────────────────
 
 MADE = {
-    "blocks/stdin": b"".join(len(piece).to_bytes(2, "little") + piece for _, piece in cases),
-    "blocks/stdout": "".join(f"{wanted}\n" for wanted, _ in cases).encode(),
     "files/stdin": b"".join(given for given, _ in writes),
     "files/stdout": "".join(line for _, line in writes).encode(),
     "fleet/stdin": block(S) + bytes(512),

@@ -15,10 +15,13 @@ use ship::rules::first;
 use ship::rules::or;
 use ship::rules::refusal;
 ghost use mathlib.Core.Path.{_≡_};
+ghost use Prim.Native.Nat.{_-_, _≤_};
 ghost use lib.ListN.{length};
+ghost use Rattle.fields.specs.Numbers.{number-at};
 ghost use Rattle.fields.specs.Runs.{numbers-at, widths-of};
 ghost use Rattle.ship.specs.Record.{no-engine};
 ghost use Rattle.ship.specs.Refusals.{first-of};
+ghost use Rattle.ship.specs.Rules.{nonzero};
 ghost use Rattle.block.specs.Layout.{entry, numbers-in, engine-from, engines-from, particulars-from, auxiliary-from, ship-in};
 ghost use Rattle.block.specs.Answers.{check-refused, zeros-refused, block-tests};
 
@@ -132,17 +135,25 @@ fn check_broken(block: &[u8]) -> bool
     (a != sums.a as u64) | (b != sums.b as u64)
 }
 
+// Whether one of the bytes from `at` up to `end` isn't zero.
+fn not_zero(block: &[u8], at: usize, end: usize) -> bool
+    requires { ⌜ (at ≤ end) × (end ≤ length (now block)) ⌝ }
+    ensures { λ r. ⌜ r ≡ nonzero (number-at (now (block .entry)) at (end - at)) ⌝ }
+{
+    !all_zero(&block[at..end])
+}
+
 // Whether a byte that must be zero isn't.
 fn zeros_broken(block: &[u8]) -> bool
     requires { ⌜ length (now block) ≡ 512 ⌝ }
     ensures { λ r. ⌜ r ≡ zeros-refused (now (block .entry)) ⌝ }
 {
-    !all_zero(&block[49..52])
-        | !all_zero(&block[70..72])
-        | !all_zero(&block[90..92])
-        | !all_zero(&block[110..112])
-        | !all_zero(&block[130..132])
-        | !all_zero(&block[132..508])
+    not_zero(block, 49, 52)
+        | not_zero(block, 70, 72)
+        | not_zero(block, 90, 92)
+        | not_zero(block, 110, 112)
+        | not_zero(block, 130, 132)
+        | not_zero(block, 132, 508)
 }
 
 // The first rule that a block and the record that stands in it break, or none.

@@ -1,47 +1,57 @@
-// Prints what writing a ship into a file answers for each case of standard input: the refusal's number, or 0, and the two check
-// sums of the file's bytes as they then are. A case is the file's length in two bytes, a block number in eight, the block of the
-// ship, and the file's bytes. A block that is refused has the empty record, and that is then the ship.
+// Reads the ship of a block and writes it into a file, for each case of standard input. Prints what reading answers, what writing
+// answers, each the refusal's number or 0, and the two check sums of the file's bytes as they then are.
+// A case is the lengths of the piece that is read and of the file in two bytes each, a block number in eight, and the bytes of
+// both. A piece that is refused has the empty record, and that is then the ship.
 // tests/blocks.py makes the cases and what is to be printed.
 use fields::check_sums;
 use fields::number_at;
 use libc::STDIN_FILENO;
 use libc::STDOUT_FILENO;
-use ship::Ship;
 
 // One case, and whether to go on.
 fn one() -> bool {
-    let mut head = [0u8; 522];
-    if io::read_full(STDIN_FILENO, &mut head) != 522 {
+    let mut head = [0u8; 12];
+    if io::read_full(STDIN_FILENO, &mut head) != 12 {
         return false;
     }
-    let mut room = [0u8; 2048];
-    answer_next(&head, &mut room);
+    let mut piece = [0u8; 1024];
+    let mut file = [0u8; 2048];
+    answer_next(&head, &mut piece, &mut file);
     true
 }
 
-fn answer_next(head: &[u8], room: &mut [u8]) {
-    if head.len() != 522 {
+// The bytes that follow, as far as there is room.
+fn answer_next(head: &[u8], piece: &mut [u8], file: &mut [u8]) {
+    if head.len() != 12 {
         return;
     }
-    let size = number_at(head, 0, 2) as usize;
-    let number = number_at(head, 2, 8);
-    let loaded = block::read(&head[10..522]);
-    let ship = loaded.ship;
-    if size <= room.len() {
-        io::read_full(STDIN_FILENO, &mut room[0..size]);
-        answer(&mut room[0..size], number, ship);
+    let length = number_at(head, 0, 2) as usize;
+    let size = number_at(head, 2, 2) as usize;
+    let number = number_at(head, 4, 8);
+    if length <= piece.len() {
+        if size <= file.len() {
+            io::read_full(STDIN_FILENO, &mut piece[0..length]);
+            io::read_full(STDIN_FILENO, &mut file[0..size]);
+            answer(&piece[0..length], &mut file[0..size], number);
+        }
     }
 }
 
-fn answer(file: &mut [u8], number: u64, s: Ship) {
-    let refusal = block::write(file, number, s);
+fn answer(piece: &[u8], file: &mut [u8], number: u64) {
+    let loaded = block::read(piece);
+    let read = loaded.refusal;
+    let ship = loaded.ship;
+    let written = block::write(file, number, ship);
     let sums = check_sums(file);
-    io::print_decimal(STDOUT_FILENO, ship::number(refusal) as u64);
-    io::write_all(STDOUT_FILENO, b" ");
-    io::print_decimal(STDOUT_FILENO, sums.a as u64);
-    io::write_all(STDOUT_FILENO, b" ");
-    io::print_decimal(STDOUT_FILENO, sums.b as u64);
-    io::write_all(STDOUT_FILENO, b"\n");
+    put(ship::number(read) as u64, b" ");
+    put(ship::number(written) as u64, b" ");
+    put(sums.a as u64, b" ");
+    put(sums.b as u64, b"\n");
+}
+
+fn put(n: u64, after: &[u8]) {
+    io::print_decimal(STDOUT_FILENO, n);
+    io::write_all(STDOUT_FILENO, after);
 }
 
 fn main() {

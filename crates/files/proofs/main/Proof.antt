@@ -1,4 +1,4 @@
--- `files::main` ends after 65,536 pieces at the most.
+-- `files::main` ends after 65,536 cases at the most.
 -- Assumes nothing.
 use native.Mathlib.Omega.{arith}
 use Rattle.files.proofs.main.Statement.{statement}
