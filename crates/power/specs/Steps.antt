@@ -22,9 +22,12 @@ evenedOf p e =
     (if (ltb p (2 ^ 62)) (record { n = p; f = e / 2 }) (record { n = p - 1; f = e / 2 }))
     (if (ltb p (2 ^ 61)) (record { n = 2 * p; f = e / 2 }) (record { n = p / 2; f = e / 2 + 1 }))
 
+abbrev pub productOf : Num → Num → Square
+productOf a b = evenedOf (a .m * b .m) (a .e + b .e)
+
 -- The geometric mean, rounded down.
 unfoldable pub meanOf : Num → Num → Num
-meanOf a b = let s = evenedOf (a .m * b .m) (a .e + b .e) in record { m = rootOf 2 (s .n); e = s .f }
+meanOf a b = let s = productOf a b in record { m = rootOf 2 (s .n); e = s .f }
 
 unfoldable pub meansOf : Pair → Pair → Pair
 meansOf p y = record { lo = meanOf (p .lo) (y .lo); hi = next (meanOf (p .hi) (y .hi)) }
