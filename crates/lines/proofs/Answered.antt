@@ -19,7 +19,7 @@ use Rattle.index.specs.declared.Index.{Index}
 use Rattle.desk.specs.Answers.{answer-of-block}
 use Rattle.desk.specs.declared.Answer.the-variants.{Bounds, Refused}
 use Rattle.lines.specs.Lines.{line-by, line-of, bounds-line, refusal-line}
-use Rattle.lines.proofs.Spelling.{width-limit}
+use Rattle.decimal.proofs.Spelling.{width-limit}
 
 -- A piece that is not a block is refused with 1.
 pub short-refused : (b : List ℕ) → (length b ≡ 512 → ⊥) → answer-of-block b ≡ Refused Length

@@ -11,9 +11,9 @@ use lib.Dec.{ltb}
 use lib.ListN.{length, take, drop, length-append, length-drop}
 use lib.Seq.{take-all, take-append-le, drop-append-le, take-at, drop-at, drop-drop}
 use Rattle.exact.specs.Index.{if}
-use Rattle.lines.specs.Digits.{Put}
+use Rattle.decimal.specs.Digits.{Put}
 use Rattle.lines.specs.Lines.{line-of, piece, pieces, lines-to, lines-of, lines-within}
-use Rattle.lines.proofs.Putting.{put-put, put-none, put-as}
+use Rattle.decimal.proofs.Putting.{put-put, put-none, put-as}
 
 -- What is lent as piece i is piece i.
 pub piece-is : (b : List ℕ) (at to : ℕ) → to ≡ if (ltb (length b - at) 512) (length b) (at + 512) → take (to - at) (drop at b) ≡ take 512 (drop at b)

@@ -1,4 +1,2 @@
-pub mod Spelling
-pub mod Putting
 pub mod Answered
 pub mod Files

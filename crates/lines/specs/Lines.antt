@@ -10,7 +10,7 @@ use Rattle.ship.specs.Refusals.{number-of}
 use Rattle.desk.specs.Answers.{answer-of-block}
 use Rattle.desk.specs.declared.Answer.{Answer}
 use Rattle.desk.specs.declared.Answer.the-variants.{Bounds, Refused}
-use Rattle.lines.specs.Digits.{decimal}
+use Rattle.decimal.specs.Digits.{decimal}
 
 -- A number and the space after it; a number and the end of the line.
 abbrev pub spaced : ℕ → List ℕ

@@ -1,6 +1,4 @@
 // The lines of the program: for each block its number and the desk's answer.
-mod decimal;
-
 use decimal::put_number;
 use decimal::put_text;
 use desk::Answer;
@@ -10,7 +8,7 @@ ghost use Prim.Native.Nat.{_+_, _-_, _*_, _≤_, _<_};
 ghost use lib.Dec.{ltb};
 ghost use lib.ListN.{length};
 ghost use Rattle.exact.specs.Index.{if};
-ghost use Rattle.lines.specs.Digits.{Put};
+ghost use Rattle.decimal.specs.Digits.{Put};
 ghost use Rattle.lines.specs.Lines.{bounds-line, refusal-line, line-of, pieces, lines-to, lines-within};
 
 // Number, IMO number, lower, upper. The longest line has four numbers of 20 digits, each with a byte behind it: 84 bytes.

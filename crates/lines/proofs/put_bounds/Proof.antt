@@ -1,7 +1,7 @@
 -- `lines::put_bounds` meets its contract.
 -- Assumes nothing.
 use native.Mathlib.Omega.{arith}
-use Rattle.lines.proofs.Putting.{put-put}
+use Rattle.decimal.proofs.Putting.{put-put}
 use borrow.Author.Needs.{needs}
 use Rattle.lines.proofs.put_bounds.Statement.{statement}
 use Rattle.lines.proofs.put_bounds.Tie as tie

@@ -2,7 +2,7 @@
 -- Assumes nothing.
 use mathlib.Core.Path.{sym, _∙_}
 use native.Mathlib.Omega.{arith}
-use Rattle.lines.proofs.Putting.{put-as}
+use Rattle.decimal.proofs.Putting.{put-as}
 use Rattle.lines.proofs.Answered.{bounds-whole, line-bounds, line-refusal}
 use borrow.Author.Needs.{needs}
 use Rattle.lines.proofs.put_line.Statement.{statement}

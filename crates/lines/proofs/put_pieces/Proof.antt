@@ -4,9 +4,9 @@ use Prim.Native.Nat.{_+_, _*_, _≤_, _-_}
 use mathlib.Core.Path.{_≡_, refl, ap, _∙_}
 use lib.ListN.{length}
 use native.Mathlib.Omega.{arith}
-use Rattle.lines.specs.Digits.{Put}
+use Rattle.decimal.specs.Digits.{Put}
 use Rattle.lines.specs.Lines.{lines-to, line-of}
-use Rattle.lines.proofs.Putting.{put-as}
+use Rattle.decimal.proofs.Putting.{put-as}
 use Rattle.lines.proofs.Files.{piece-is, next-line, no-line}
 use Rattle.lines.proofs.put_pieces.Statement.{statement}
 use Rattle.lines.proofs.put_pieces.Tie as tie

@@ -1,10 +1,10 @@
--- `lines::decimal::put_number` meets its contract.
+-- `decimal::put_number` meets its contract.
 -- Assumes nothing.
 use native.Mathlib.Omega.{arith}
-use Rattle.lines.proofs.Putting.{text-byte-put}
+use Rattle.decimal.proofs.Putting.{text-byte-put}
 use borrow.Author.Needs.{needs}
-use Rattle.lines.proofs.decimal.put_number.Statement.{statement}
-use Rattle.lines.proofs.decimal.put_number.Tie as tie
+use Rattle.decimal.proofs.put_number.Statement.{statement}
+use Rattle.decimal.proofs.put_number.Tie as tie
 
 width-requires : tie.Need-width-requires
 width-requires c κs = search needs

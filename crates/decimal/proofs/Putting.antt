@@ -8,7 +8,7 @@ use native.Mathlib.Omega.{arith}
 use borrow.Rule.Slice.PartMut.{putMid, post-is}
 use lib.ListN.{length, take, drop, set, getD, length-append, length-drop, take-append-drop}
 use lib.Seq.{take-at, drop-at, drop-drop, length-take-le, set-split, take-suc, take-suc-set, take-all}
-use Rattle.lines.specs.Digits.{over, Put}
+use Rattle.decimal.specs.Digits.{over, Put}
 
 module _ (a xs : List ℕ) (at : ℕ) (h : at + length xs ≤ length a) where
   over-length : length (over a at xs) ≡ length a

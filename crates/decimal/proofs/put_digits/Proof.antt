@@ -1,4 +1,4 @@
--- `lines::decimal::put_digits` meets its contract. From `left` on the part has the digits; those of `rest` are left.
+-- `decimal::put_digits` meets its contract. From `left` on the part has the digits; those of `rest` are left.
 -- Assumes nothing.
 use Prim.Native.Nat.{_≤_}
 use mathlib.Core.Path.{_≡_, refl}
@@ -6,10 +6,10 @@ use mathlib.Core.List.{_++_}
 use lib.ListN.{length, drop, length-set}
 use native.Mathlib.Omega.{arith}
 use borrow.Author.Needs.{needs}
-use Rattle.lines.specs.Digits.{decimal}
-use Rattle.lines.proofs.Spelling.{last-digits, stored-start, stored-again, stored-end}
-use Rattle.lines.proofs.decimal.put_digits.Statement.{statement}
-use Rattle.lines.proofs.decimal.put_digits.Tie as tie
+use Rattle.decimal.specs.Digits.{decimal}
+use Rattle.decimal.proofs.Spelling.{last-digits, stored-start, stored-again, stored-end}
+use Rattle.decimal.proofs.put_digits.Statement.{statement}
+use Rattle.decimal.proofs.put_digits.Tie as tie
 
 abbrev Inv-loop : tie.InvT-loop
 Inv-loop part₀ n left₀ rest₀ part left rest = (left ≤ length part₀) × (length part ≡ length part₀) × (last-digits left rest ++ drop left part ≡ decimal n)

@@ -3,7 +3,7 @@ ghost use mathlib.Core.Path.{_≡_};
 ghost use mathlib.Core.List.{[], _∷_, _++_};
 ghost use Prim.Native.Nat.{_+_, _≤_};
 ghost use lib.ListN.{length};
-ghost use Rattle.lines.specs.Digits.{decimal, Put};
+ghost use Rattle.decimal.specs.Digits.{decimal, Put};
 
 // How many digits n has.
 fn width(n: u64) -> usize

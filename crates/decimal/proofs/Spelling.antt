@@ -12,7 +12,7 @@ use lib.Dec.{ltb}
 use lib.ListN.{length, drop, set, length-append, length-set, drop-of-length-le}
 use lib.Seq.{drop-cons, drop-set-lt, getD-set-same, append-snoc}
 use Rattle.exact.specs.Index.{if}
-use Rattle.lines.specs.Digits.{digit, spelled, decimal}
+use Rattle.decimal.specs.Digits.{digit, spelled, decimal}
 
 -- ── The two rules of decimal ────────────────────────────────────────────────────────────────
 

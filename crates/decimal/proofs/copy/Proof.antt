@@ -1,12 +1,12 @@
--- `lines::decimal::copy` meets its contract.
+-- `decimal::copy` meets its contract.
 -- Assumes nothing.
 use Prim.Native.Nat.{_≤_, _-_}
 use mathlib.Core.Path.{_≡_, refl}
 use lib.ListN.{length, take, length-set}
 use native.Mathlib.Omega.{arith}
-use Rattle.lines.proofs.Putting.{copied-again, copied-end}
-use Rattle.lines.proofs.decimal.copy.Statement.{statement}
-use Rattle.lines.proofs.decimal.copy.Tie as tie
+use Rattle.decimal.proofs.Putting.{copied-again, copied-end}
+use Rattle.decimal.proofs.copy.Statement.{statement}
+use Rattle.decimal.proofs.copy.Tie as tie
 
 abbrev Inv-loop : tie.InvT-loop
 Inv-loop part₀ text i₀ part i = (i ≤ length part₀) × (length part ≡ length part₀) × (length part₀ ≡ length text) × (take i part ≡ take i text)

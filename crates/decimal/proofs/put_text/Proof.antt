@@ -1,11 +1,11 @@
--- `lines::decimal::put_text` meets its contract.
+-- `decimal::put_text` meets its contract.
 -- Assumes nothing.
 use mathlib.Core.Path.{refl}
 use native.Mathlib.Omega.{arith}
-use Rattle.lines.proofs.Putting.{text-put}
+use Rattle.decimal.proofs.Putting.{text-put}
 use borrow.Author.Needs.{needs}
-use Rattle.lines.proofs.decimal.put_text.Statement.{statement}
-use Rattle.lines.proofs.decimal.put_text.Tie as tie
+use Rattle.decimal.proofs.put_text.Statement.{statement}
+use Rattle.decimal.proofs.put_text.Tie as tie
 
 add-end : tie.Need-add-end
 add-end c = search needs

@@ -1,13 +1,13 @@
--- `lines::decimal::width` meets its contract. Those that are counted and those of `rest` are the digits of n.
+-- `decimal::width` meets its contract. Those that are counted and those of `rest` are the digits of n.
 -- Assumes nothing.
 use Prim.Native.Nat.{_+_, _≤_}
 use mathlib.Core.Path.{_≡_}
 use lib.ListN.{length}
 use native.Mathlib.Omega.{arith}
-use Rattle.lines.specs.Digits.{decimal}
-use Rattle.lines.proofs.Spelling.{more, width-step, more-step, width-limit}
-use Rattle.lines.proofs.decimal.width.Statement.{statement}
-use Rattle.lines.proofs.decimal.width.Tie as tie
+use Rattle.decimal.specs.Digits.{decimal}
+use Rattle.decimal.proofs.Spelling.{more, width-step, more-step, width-limit}
+use Rattle.decimal.proofs.width.Statement.{statement}
+use Rattle.decimal.proofs.width.Tie as tie
 
 abbrev Inv-loop : tie.InvT-loop
 Inv-loop n digits₀ rest₀ digits rest = (length (decimal n) ≡ digits + more rest) × (length (decimal n) ≤ 20)
