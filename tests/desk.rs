@@ -5,7 +5,7 @@
 use std::convert::TryFrom;
 use std::fs::File;
 use std::io::{Read, Write};
-use std::os::fd::AsFd;
+use std::os::unix::io::AsFd;
 
 pub const BLOCK: usize = 512;
 pub const MOST_BLOCKS: usize = 65_536;

@@ -19,7 +19,7 @@ fn width(n: u64) -> usize
     digits
 }
 
-// The part becomes the digits of n, the last one first.
+// The part becomes the digits of n, which are found from the last to the first.
 fn put_digits(part: &mut [u8], n: u64)
     requires { ⌜ length (now part) ≡ length (decimal n) ⌝ }
     ensures { λ r. ⌜ now (part .exit) ≡ decimal n ⌝ }

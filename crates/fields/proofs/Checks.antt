@@ -30,6 +30,7 @@ times-mod n x =
     let s : (65536 * q + r) * x ≡ r * x + 65536 * (q * x) = omega arith in
     sym (ap (λ (m : ℕ). m * x % 65536) e ∙ ap (λ (m : ℕ). m % 65536) s ∙ add-mul-mod-self-left (r * x) 65536 (q * x))
 
+-- What is rounded off before an addition is rounded off after it as well.
 gather : (b c p t w : ℕ) → p % 65536 ≡ t % 65536 → ((b + c % 65536) % 65536 + (p + w)) % 65536 ≡ (b + c + (t + w)) % 65536
 gather b c p t w h = omega (arith, h)
 
@@ -40,7 +41,7 @@ two : {a c b d : ℕ} → a ≡ c → b ≡ d → both a b ≡ both c d
 two h k = rw (h, k)
 
 -- Both sums with no step waiting for the one before: A is all bytes on top of a, and B has a and the bytes as often as A has them.
-pub sums-at-once : (a b : ℕ) (xs : List ℕ) → a < 65536 → b < 65536
+sums-at-once : (a b : ℕ) (xs : List ℕ) → a < 65536 → b < 65536
     → sums a b xs ≡ both ((a + sum xs) % 65536) ((b + length xs * a + weighed xs) % 65536)
 unfolding sums
 sums-at-once a b [] h k = two (omega arith) (omega arith)

@@ -45,16 +45,15 @@ rounded-near x x' w w' m lo hi pos near over f g =
 
 -- ── The product ─────────────────────────────────────────────────────────────────────────────
 
--- A multiple of a root that is known to s-ths, cubed.
-under : (t k r s n d : ℕ) → 0 < s → t * s ≤ k * r → r ^ 3 * d ≤ n * s ^ 3 → t ^ 3 * d ≤ k ^ 3 * n
-under t k r s n d pos h root =
+-- A multiple of a root that is known to s-ths, cubed; with the two sides exchanged, of its inverse.
+cubed : (t k r s n d : ℕ) → 0 < s → t * s ≤ k * r → r ^ 3 * d ≤ n * s ^ 3 → t ^ 3 * d ≤ k ^ 3 * n
+cubed t k r s n d pos h root =
     let up : t ^ 3 * s ^ 3 ≤ k ^ 3 * r ^ 3 = rw (← mul-pow t s 3, ← mul-pow k r 3) (pow-le-pow-left h 3) in
     le-of-mul-le-mul-right {k = s ^ 3} (omega (arith, mul-le-mul-right d up, mul-le-mul-left (k ^ 3) root)) (one-le-pow 3 s pos)
 
-over : (t k r s n d : ℕ) → 0 < s → k * r ≤ t * s → n * s ^ 3 ≤ r ^ 3 * d → k ^ 3 * n ≤ t ^ 3 * d
-over t k r s n d pos h root =
-    let up : k ^ 3 * r ^ 3 ≤ t ^ 3 * s ^ 3 = rw (← mul-pow t s 3, ← mul-pow k r 3) (pow-le-pow-left h 3) in
-    le-of-mul-le-mul-right {k = s ^ 3} (omega (arith, mul-le-mul-right d up, mul-le-mul-left (k ^ 3) root)) (one-le-pow 3 s pos)
+-- Where x / y is at most s / r, and that at most 2.
+twofold : (x y r s : ℕ) → 0 < r → x * r ≤ y * s → s ≤ r * 2 → x ≤ y * 2
+twofold x y r s pos h k = le-of-mul-le-mul-right {k = r} (omega (arith, mul-le-mul-left y k)) pos
 
 -- The two ends, in millionths of a knot, against base / over times the cube root of n / d.
 pub record Product (s : Split) (n d : ℕ) (r : Bounds) : Type 0 where
@@ -66,12 +65,6 @@ pub record Product (s : Split) (n d : ℕ) (r : Bounds) : Type 0 where
 
 some : {n d : ℕ} → Moderate n d → 0 < n
 some m = omega (arith, m .some, m .eighth)
-
-doubled : (t w s b r : ℕ) → 0 < s → b * r * 2 ^ 30 ≤ t * (w * (s * 1000)) → s ≤ r * 2 → b * 2 ^ 30 ≤ t * 1000 * w * 2
-doubled t w s b r pos h k = le-of-mul-le-mul-right {k = s} (omega (arith, mul-le-mul-left (b * 2 ^ 30) k)) pos
-
-halved : (t w s b r : ℕ) → 0 < s → t * (w * (s * 1000)) ≤ b * r * 2 ^ 30 → r ≤ s * 2 → t * 1000 * w ≤ b * 2 ^ 30 * 2
-halved t w s b r pos h k = le-of-mul-le-mul-right {k = s} (omega (arith, mul-le-mul-left (b * 2 ^ 30) k)) pos
 
 module _ {s : Split} {n d : ℕ} (p : Parted s) (m : Moderate n d) where
   root : CubeRoot n d (cubeRootOf n d .scale) (cubeRootOf n d .low) (cubeRootOf n d .high)
@@ -104,13 +97,14 @@ module _ {s : Split} {n d : ℕ} (p : Parted s) (m : Moderate n d) where
           → Product s n d (record { lo = lo; hi = hi })
       go lo hi f g =
           let u = units-some (m .some) root in
+          let r : 0 < cubeRootOf n d .high = omega (arith, root-low (m .some) root, root-near (m .some) root .0) in
           record {
-            below = under (lo * 1000 * s .over .hi) (s .base .lo * 2 ^ 30) (cubeRootOf n d .low) (cubeRootOf n d .scale) n d u (omega (arith, f .at-most)) (root .root .below);
-            above = over (hi * 1000 * s .over .lo) (s .base .hi * 2 ^ 30) (cubeRootOf n d .high) (cubeRootOf n d .scale) n d u (omega (arith, g .at-least)) (root .root .above);
+            below = cubed (lo * 1000 * s .over .hi) (s .base .lo * 2 ^ 30) (cubeRootOf n d .low) (cubeRootOf n d .scale) n d u (omega (arith, f .at-most)) (root .root .below);
+            above = cubed (s .base .hi * 2 ^ 30) (hi * 1000 * s .over .lo) (cubeRootOf n d .scale) (cubeRootOf n d .high) d n r (omega (arith, g .at-least)) (omega (arith, root .root .above));
             near =
                 rounded-near (s .base .lo * cubeRootOf n d .low * 2 ^ 30) (s .base .hi * cubeRootOf n d .high * 2 ^ 30) (s .over .lo) (s .over .hi) (cubeRootOf n d .scale * 1000) lo hi over-some
                 (omega (arith, together (s .base .lo) (s .base .hi) (cubeRootOf n d .low) (cubeRootOf n d .high) (p .near) (root-near (m .some) root .1) (root-low (m .some) root)))
                 (omega (arith, p .over-near)) f g;
-            half = doubled hi (s .over .lo) (cubeRootOf n d .scale) (s .base .hi) (cubeRootOf n d .high) u (g .at-least) (root-least (m .some) root (some m) (m .eighth));
-            twice = λ k. halved lo (s .over .hi) (cubeRootOf n d .scale) (s .base .lo) (cubeRootOf n d .low) u (f .at-most) (root-most (m .some) root k);
+            half = twofold (s .base .hi * 2 ^ 30) (hi * 1000 * s .over .lo) (cubeRootOf n d .high) (cubeRootOf n d .scale) r (omega (arith, g .at-least)) (root-least (m .some) root (some m) (m .eighth));
+            twice = λ k. twofold (lo * 1000 * s .over .hi) (s .base .lo * 2 ^ 30) (cubeRootOf n d .scale) (cubeRootOf n d .low) u (omega (arith, f .at-most)) (root-most (m .some) root k);
           }
