@@ -13,14 +13,15 @@ use mir.Val.{Val}
 use denote.Shadow.{shadow}
 use denote.Struct.Declared.{row}
 use Rattle.exact.specs.Index.{if}
-use Rattle.fields.proofs.Numbers.{Bytes, bytes-take, bytes-drop}
+use Rattle.fields.specs.Numbers.{Bytes}
+use Rattle.fields.proofs.Numbers.{bytes-take, bytes-drop}
 use Rattle.ship.specs.Record.{empty-ship}
-use Rattle.ship.specs.Refusals.{number-of, first-of, or-else}
+use Rattle.ship.specs.Refusals.{number-of, First, first-of, or-else}
 use Rattle.ship.specs.Rules.{tests, refusal-of}
 use Rattle.ship.specs.declared.Ship.{Ship}
 use Rattle.ship.specs.declared.Refusal.{Refusal}
 use Rattle.ship.specs.declared.Refusal.the-variants.{None, Length, NoBlock}
-use Rattle.ship.proofs.Order.{First, first-is, first-one, none}
+use Rattle.ship.proofs.Order.{first-is, first-one, none}
 use Rattle.ship.proofs.Right.{after-own}
 use Rattle.ship.proofs.Ship.{the-type}
 use Rattle.ship.proofs.Typed.{four}

@@ -9,10 +9,10 @@ use borrow.Author.Tests.{eqb-true, eq-eqb, not-false}
 use lib.Dec.{eqb}
 use lib.ListN.{length, getD, take, drop}
 use lib.Seq.{take-add, take-all}
-use Rattle.fields.specs.Numbers.{bytes-of, number-at}
+use Rattle.fields.specs.Numbers.{bytes-of, number-at, Bytes}
 use Rattle.fields.specs.Runs.{pack, total, numbers-at, numbers-of}
 use Rattle.fields.specs.Checks.{sums}
-use Rattle.fields.proofs.Numbers.{value-bytes, Bytes, bytes-number}
+use Rattle.fields.proofs.Numbers.{value-bytes, bytes-number}
 use Rattle.fields.proofs.Checks.{sums-below}
 use Rattle.fields.proofs.Runs.{unpack, repack}
 use Rattle.exact.specs.Index.{if}

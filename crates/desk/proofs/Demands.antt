@@ -8,32 +8,41 @@ use native.Mathlib.Nat.{lt-of-le-of-lt}
 use native.Mathlib.Omega.{arith}
 use lib.ListN.{length}
 use borrow.Author.Tests.{ne-eqb}
+use mathlib.Core.Logic.{_↔_}
+use mir.Val.{Val}
+use denote.Shadow.{shadow}
+use denote.Struct.Declared.{row}
 use Rattle.exact.specs.Formula.{_//_, Formula, below, above, bounds, Enclosed}
 use Rattle.exact.specs.Ship.{declared, Figures}
-use Rattle.exact.specs.Ranges.{Range, Inside, Narrowed, Stands-for, most-favourable, least-favourable}
+use Rattle.exact.specs.Ranges.{Range, low, high, Inside, Narrowed, Stands-for, most-favourable, least-favourable}
 use Rattle.exact.specs.Index.{whole, f-c, speed, index}
 use Rattle.exact.proofs.Formulas.{consistent}
-use Rattle.exact.proofs.Favour.{stands-most, stands-least, inside-enclosed}
+use Rattle.exact.proofs.Favour.{stands-most, stands-least, inside-enclosed, ship-inside, low-inside, high-inside}
 use Rattle.ship.specs.Figures.{figures}
-use Rattle.ship.specs.Refusals.{number-of}
+use Rattle.ship.specs.Refusals.{number-of, First}
 use Rattle.ship.specs.Rules.{tests, refusal-of}
 use Rattle.ship.specs.Accepted.{Accepted}
+use Rattle.ship.specs.declared.Refusal.{Refusal}
 use Rattle.ship.specs.declared.Refusal.the-variants.{None, Length}
 use Rattle.ship.specs.declared.Ship.{Ship}
-use Rattle.ship.proofs.Order.{First, first-is, none}
-use Rattle.ship.specs.Ends.{record-end}
+use Rattle.ship.proofs.Order.{first-is, first-one, none}
+use Rattle.ship.specs.Ends.{record-end, Narrower-record}
 use Rattle.ship.proofs.Figured.{accepted}
 use Rattle.ship.proofs.Ends as ends
-use Rattle.fields.proofs.Numbers.{Bytes}
-use Rattle.block.specs.Layout.{encode, ship-in}
+use Rattle.ship.proofs.Narrowing as narrowing-of
+use Rattle.ship.proofs.Ship.{the-type}
+use Rattle.ship.proofs.Typed.{four}
+use Rattle.fields.specs.Numbers.{Bytes}
+use Rattle.block.specs.Layout.{encode, ship-from, ship-in}
 use Rattle.block.specs.Answers.{length-refused, block-tests, read-refusal, read-of, loaded, write-refusal, write-of}
 use Rattle.block.proofs.Theorems as block
 use Rattle.speed.specs.Speeds.{Speed}
 use Rattle.index.specs.Attained.{speed-of, lower-of, upper-of, index-of}
+use Rattle.index.specs.declared.Index.{Index}
 use Rattle.index.proofs.Laws as law
-use Rattle.desk.specs.Answers.{answer-of, answer-of-block, lower-in, upper-in}
+use Rattle.desk.specs.Answers.{answer-of, answer-of-block, number-in, lower-in, upper-in, Taken, lower, upper}
 use Rattle.desk.specs.declared.Answer.the-variants.{Bounds, Refused}
-use Rattle.desk.proofs.Answering.{refused, bounded, block-accepted}
+use Rattle.desk.proofs.Answering.{refused, bounded, numbered, zero-bounded, block-accepted}
 use mathlib.Core.Bool.{Bool, true, false}
 
 -- ── Demand 1: every input has exactly one answer, by the first rule broken ──────────────────
@@ -52,6 +61,18 @@ pub record-refused : (s : Ship) → (refusal-of s ≡ None → ⊥) → answer-o
 unfolding answer-of
 record-refused s h = sym (refused s refl (λ e. h (none _ e)))
 
+-- So the answer's number is that of the first rule broken, and 0 exactly where there are bounds; a refusal has no bound.
+pub record-number : (s : Ship) (r : Refusal) → First (tests s) None r → number-in (answer-of s) ≡ number-of r
+unfolding answer-of
+record-number s r f = numbered (refusal-of s) s ∙ ap number-of (first-one (record-first s) f)
+
+pub record-zero : (s : Ship) → number-in (answer-of s) ≡ 0 ↔ (i : Index) × (answer-of s ≡ Bounds i)
+unfolding answer-of
+record-zero s = zero-bounded (refusal-of s) s
+
+pub record-no-bound : (s : Ship) → (refusal-of s ≡ None → ⊥) → (lower-in (answer-of s) ≡ 0) × (upper-in (answer-of s) ≡ 0)
+record-no-bound s h = rw (record-refused s h) (refl, refl)
+
 -- The same of bytes, of every length.
 pub block-first : (b : List ℕ) → First ((length-refused b, Length) ∷ block-tests b (ship-in b)) None (read-refusal b)
 unfolding read-refusal
@@ -65,6 +86,17 @@ pub block-refused : (b : List ℕ) → (read-refusal b ≡ None → ⊥) → ans
 unfolding answer-of-block
 block-refused b h = sym (refused _ refl (λ e. h (none _ e)))
 
+pub block-number : (b : List ℕ) (r : Refusal) → First ((length-refused b, Length) ∷ block-tests b (ship-in b)) None r → number-in (answer-of-block b) ≡ number-of r
+unfolding answer-of-block
+block-number b r f = numbered (read-refusal b) _ ∙ ap number-of (first-one (block-first b) f)
+
+pub block-zero : (b : List ℕ) → number-in (answer-of-block b) ≡ 0 ↔ (i : Index) × (answer-of-block b ≡ Bounds i)
+unfolding answer-of-block
+block-zero b = zero-bounded (read-refusal b) _
+
+pub block-no-bound : (b : List ℕ) → (read-refusal b ≡ None → ⊥) → (lower-in (answer-of-block b) ≡ 0) × (upper-in (answer-of-block b) ≡ 0)
+block-no-bound b h = rw (block-refused b h) (refl, refl)
+
 -- An accepted block is answered as its record is.
 pub block-as-record : (b : List ℕ) → read-refusal b ≡ None → answer-of-block b ≡ answer-of (read-of b .ship)
 block-as-record b e = block-bounded b e ∙ sym (record-bounded _ (block-accepted b e))
@@ -76,20 +108,16 @@ file-kept f n s h = rw (ne-eqb (number-of (write-refusal f n s)) 0 (λ e. h (non
 
 -- ── An accepted record ──────────────────────────────────────────────────────────────────────
 
--- Four engine entries, as the record's type has them, and no refusal.
-pub record Taken (s : Ship) : Type 0 where
-  pub entries : length (s .engines) ≡ 4
-  pub none : refusal-of s ≡ None
+-- Every value of the record's type with no refusal is such a record, and so is what is read from an accepted block.
+pub value-taken : (s : Ship) (vs : List Val) → shadow (row the-type .own s vs) → refusal-of s ≡ None → Taken s
+value-taken s vs g e = record { entries = four s vs g; none = e }
+
+pub block-taken : (b : List ℕ) → read-refusal b ≡ None → Taken (read-of b .ship)
+unfolding read-of ship-in ship-from
+block-taken b e = record { entries = rw e; none = block-accepted b e }
 
 ranges-kept : {s : Ship} → Taken s → Accepted (figures s)
 ranges-kept {s} t = accepted s (t .entries) (t .none)
-
--- Its two bounds, in millionths of a gram of CO2 per tonne and nautical mile.
-abbrev pub lower : Ship → ℕ
-lower s = lower-in (answer-of s)
-
-abbrev pub upper : Ship → ℕ
-upper s = upper-in (answer-of s)
 
 lower-is : {s : Ship} → Taken s → lower s ≡ lower-of (most-favourable (figures s))
 unfolding index-of
@@ -138,6 +166,10 @@ bounds-small t =
     rw (lower-is t, upper-is t)
     (lt-of-le-of-lt (in-order (law.encloses false (ranges-kept t))) (law.small false (ranges-kept t)), law.small true (ranges-kept t))
 
+-- The upper one is above 0, so that two zeros stand for no bounds alone.
+pub bounds-some : {s : Ship} → Taken s → 0 < upper s
+bounds-some t = rw (upper-is t) (law.some true (ranges-kept t))
+
 -- A ship written to a block reads back as the same ship; an accepted block written again has the same bytes.
 pub ship-back : {s : Ship} → Taken s → read-of (encode s) ≡ loaded None s
 ship-back {s} t = block.same-ship s (t .entries) (t .none)
@@ -155,6 +187,15 @@ pub inside : {s : Ship} {f : Figures ℕ} → Taken s → Inside (figures s) f �
 inside t i =
     rw (lower-is t, upper-is t)
     (inside-enclosed i (ranges-kept t .settled) (law.encloses false (ranges-kept t)) (law.encloses true (ranges-kept t)))
+
+-- Any record whose ranges lie within those of s, all else equal, has narrowed figures, and both its ends are ships inside: so with two
+-- equal ends it is one ship inside.
+pub records-narrowed : {s s' : Ship} → Narrower-record s s' → Narrowed (figures s) (figures s')
+records-narrowed = narrowing-of.narrowed
+
+pub records-inside : {s s' : Ship} → Narrower-record s s' → Inside (figures s) (most-favourable (figures s')) × Inside (figures s) (least-favourable (figures s'))
+records-inside n =
+    (ship-inside low high low-inside high-inside (narrowing-of.narrowed n), ship-inside high low high-inside low-inside (narrowing-of.narrowed n))
 
 -- The lower bound is the one of the most favourable ship, the upper bound of the least favourable.
 pub lower-of-most : {s s' : Ship} → Taken s → Taken s' → Stands-for (figures s') (most-favourable (figures s)) → lower s' ≡ lower s

@@ -4,6 +4,7 @@ use Prim.Native.Nat.{ℕ}
 use mathlib.Core.Path.{_≡_}
 use mathlib.Core.List.{List}
 use lib.Dec.{eqb}
+use lib.ListN.{length}
 use Rattle.exact.specs.Index.{if}
 use Rattle.ship.specs.Refusals.{number-of}
 use Rattle.ship.specs.Rules.{refusal-of}
@@ -30,7 +31,7 @@ answer-of s = answer-by (refusal-of s) s
 unfoldable pub answer-of-block : List ℕ → Answer
 answer-of-block b = answer-by (read-refusal b) (read-of b .ship)
 
--- The refusal's number, 0 where there is none; the bounds, which a refusal does not have.
+-- The refusal's number, 0 where there is none; the two bounds, both 0 where there are none.
 abbrev pub number-in : Answer → ℕ
 number-in (Bounds i) = 0
 number-in (Refused r) = number-of r
@@ -42,3 +43,17 @@ lower-in (Refused r) = 0
 abbrev pub upper-in : Answer → ℕ
 upper-in (Bounds i) = i .upper
 upper-in (Refused r) = 0
+
+-- ── An accepted record ──────────────────────────────────────────────────────────────────────
+
+-- Four engine entries, as every value of the record's type has them, and no refusal.
+pub record Taken (s : Ship) : Type 0 where
+  pub entries : length (s .engines) ≡ 4
+  pub none : refusal-of s ≡ None
+
+-- Its two bounds, in millionths of a gram of CO2 per tonne and nautical mile.
+abbrev pub lower : Ship → ℕ
+lower s = lower-in (answer-of s)
+
+abbrev pub upper : Ship → ℕ
+upper s = upper-in (answer-of s)

@@ -11,7 +11,7 @@ use borrow.Author.Tests.{ne-eqb}
 use lib.Dec.{eqb, lit<}
 use lib.ListN.{length, getD, take, drop, set, length-drop, drop-of-length-le}
 use lib.Seq.{drop-cons, length-take-le, paste-suc, take-all}
-use Rattle.fields.specs.Numbers.{bytes-of, value-of, number-at}
+use Rattle.fields.specs.Numbers.{bytes-of, value-of, number-at, Bytes}
 
 pub bytes-of-length : (w n : ℕ) → length (bytes-of w n) ≡ w
 unfolding bytes-of
@@ -29,11 +29,7 @@ value-bytes (suc w) n h =
     let ih : value-of (bytes-of w (n / 256)) ≡ n / 256 = value-bytes w (n / 256) (omega arith) in
     omega arith
 
--- Every element is a byte.
-abbrev pub Bytes : List ℕ → Type 0
-Bytes [] = Unit {0}
-Bytes (x ∷ xs) = (x < 256) × Bytes xs
-
+-- Whatever has no element from 256 on.
 pub each-byte : (xs : List ℕ) → ((i : ℕ) → getD xs i 0 < 256) → Bytes xs
 each-byte [] h = tt
 each-byte (x ∷ xs) h = (h 0, each-byte xs (λ i. h (suc i)))

@@ -7,9 +7,9 @@ use native.Mathlib.Numerals.{add-one}
 use native.Mathlib.Omega.{arith}
 use lib.ListN.{length, getD, take, drop, length-append, drop-of-length-le}
 use lib.Seq.{drop-cons, take-at, drop-at, take-add, drop-drop, take-take}
-use Rattle.fields.specs.Numbers.{bytes-of, value-of, number-at}
+use Rattle.fields.specs.Numbers.{bytes-of, value-of, number-at, Bytes}
 use Rattle.fields.specs.Runs.{pack, numbers-at, total, widths-of, packed}
-use Rattle.fields.proofs.Numbers.{bytes-of-length, value-bytes, Bytes, bytes-number}
+use Rattle.fields.proofs.Numbers.{bytes-of-length, value-bytes, bytes-number}
 
 -- ── A run, field by field ───────────────────────────────────────────────────────────────────
 

@@ -25,7 +25,7 @@ use Rattle.speed.specs.Speeds.{exactly, Fitting, Admitted, speedOf, Speed}
 use Rattle.speed.proofs.Laws.{speed-law}
 use Rattle.speed.proofs.Sides.{at}
 use Rattle.index.specs.Attained.{millionths-down, millionths-up, Sized, load, speed-of, factor-of, lower-of, upper-of}
-use Rattle.index.proofs.Rounding.{lower-floor, upper-ceil, upper-small, lower-order, upper-order, bounds-near}
+use Rattle.index.proofs.Rounding.{lower-floor, upper-ceil, upper-small, upper-some, lower-order, upper-order, bounds-near}
 
 -- ── What the rules leave of the speed ───────────────────────────────────────────────────────
 
@@ -179,6 +179,10 @@ module _ (top : Bool) {r : Figures Range} (a : Accepted r) where
   pub small : upper-of (at-end top r) < 2 ^ 53
   unfolding upper-of
   small = upper-small sized-upper
+
+  pub some : 0 < upper-of (at-end top r)
+  unfolding upper-of
+  some = upper-some sized-upper (N-within top a .least)
 
   -- ── Where only fractions enter ────────────────────────────────────────────────────────────
 

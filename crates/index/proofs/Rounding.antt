@@ -1,5 +1,5 @@
 -- The two roundings of an index: what fits, how near they are, and that they grow and fall with their parts. Assumes nothing.
-use Prim.Native.Nat.{ℕ, _+_, _*_, _^_, _≤_, _<_}
+use Prim.Native.Nat.{ℕ, zero, suc, _+_, _*_, _^_, _≤_, _<_}
 use native.Mathlib.Nat.{le-trans, le-of-lt, lt-of-le-of-lt, lt-of-lt-of-le, mul-pos, mul-le-mul, mul-le-mul-left, mul-le-mul-right, le-of-mul-le-mul-right, lt-of-mul-lt-mul-right}
 use native.Mathlib.Omega.{arith}
 use lib.Dec.{lit<, lit≤}
@@ -62,6 +62,14 @@ module _ {n load v c : ℕ} (z : Sized n load v c) where
       let big : 700000000000 * 1000000 ≤ load * v * millionths-down c = mul-le-mul work-low (down-within (z .factored) .least) in
       let x : n * 10 ^ 15 ≤ 8571428571429 * (load * v * millionths-down c) = le-trans (mul-le-mul-right (10 ^ 15) (z .emitted)) (le-trans (lit≤ tt) (mul-le-mul-left 8571428571429 big)) in
       lt-of-le-of-lt (ceil-least upper-ceil 8571428571429 x) (lit< tt)
+
+  -- Above 0, where something is emitted.
+  pub upper-some : 0 < n → 0 < upperOf n load v c
+  upper-some h = go (upperOf n load v c) (upper-ceil .at-least)
+    where
+      go : (u : ℕ) → n * 10 ^ 15 ≤ u * (load * v * millionths-down c) → 0 < u
+      go zero k = omega arith
+      go (suc u) k = omega arith
 
 -- ── Order ───────────────────────────────────────────────────────────────────────────────────
 

@@ -6,3 +6,4 @@ pub mod Figured
 pub mod Typed
 pub mod Vectors
 pub mod Ends
+pub mod Narrowing

@@ -9,7 +9,7 @@ use borrow.Author.Tests.{ltb-true, ne-eqb}
 use lib.ListN.{getD, take, drop}
 use lib.Dec.{ltb}
 use Rattle.exact.specs.Index.{if}
-use Rattle.ship.specs.Refusals.{number-of, first-of, or-else}
+use Rattle.ship.specs.Refusals.{number-of, First, no-test, given, passed-by, first-of, or-else}
 use Rattle.ship.specs.declared.Refusal.{Refusal}
 use Rattle.ship.specs.declared.Refusal.the-variants.{None, Length, Check, Layout, ImoNumber, ShipType, Deadweight, GrossTonnage, CargoVolume, Engines, Consumption, AuxiliaryPower, IceClass, Speed, Ranges, Trial, Unused, NoBlock}
 
@@ -44,12 +44,6 @@ both true t e = (refl, e)
 both false t e = absurd (let z : _≡_ {A = ℕ} 0 1 = cc in omega arith)
 
 -- ── Given exactly when ──────────────────────────────────────────────────────────────────────
-
--- `First ts rest r`: r is the refusal of the first test that holds, or rest where none does.
-pub data First : List (Bool × Refusal) → Refusal → Refusal → Type 0 where
-  no-test : {rest : Refusal} → First [] rest rest
-  given : {r rest : Refusal} {ts : List (Bool × Refusal)} → First ((true, r) ∷ ts) rest r
-  passed-by : {n r rest : Refusal} {ts : List (Bool × Refusal)} → First ts rest r → First ((false, n) ∷ ts) rest r
 
 pub first-is : (ts : List (Bool × Refusal)) (rest : Refusal) → First ts rest (first-of ts rest)
 unfolding first-of

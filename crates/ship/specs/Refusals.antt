@@ -2,7 +2,7 @@
 -- Assumes nothing.
 use Prim.Native.Nat.{ℕ}
 use mathlib.Core.List.{List, [], _∷_}
-use mathlib.Core.Bool.{Bool}
+use mathlib.Core.Bool.{Bool, true, false}
 use lib.Dec.{eqb}
 use Rattle.exact.specs.Index.{if}
 use Rattle.ship.specs.declared.Refusal.{Refusal}
@@ -29,7 +29,14 @@ number-of Trial = 15
 number-of Unused = 16
 number-of NoBlock = 17
 
--- Tests in order of checking, each with the refusal that is given where it holds: the first such refusal, or else rest.
+-- Tests in order of checking, each with the refusal that is given where it holds.
+-- `First ts rest r`: r is the refusal of the first test that holds, or rest where none does.
+pub data First : List (Bool × Refusal) → Refusal → Refusal → Type 0 where
+  no-test : {rest : Refusal} → First [] rest rest
+  given : {r rest : Refusal} {ts : List (Bool × Refusal)} → First ((true, r) ∷ ts) rest r
+  passed-by : {n r rest : Refusal} {ts : List (Bool × Refusal)} → First ts rest r → First ((false, n) ∷ ts) rest r
+
+-- That one refusal.
 unfoldable pub first-of : List (Bool × Refusal) → Refusal → Refusal
 first-of [] rest = rest
 first-of (t ∷ ts) rest = if (t .0) (t .1) (first-of ts rest)
