@@ -1,77 +1,21 @@
--- The figures of document 01 that are marked P: one list, and one statement over it.
+-- The figures that are marked P hold.
 -- Assumes nothing.
-use Prim.Native.Nat.{ℕ}
-use mathlib.Core.Path.{_≡_, refl}
-use mathlib.Core.List.{List, [], _∷_}
+use mathlib.Core.Path.{refl}
 use native.Mathlib.Omega.{arith}
-use Rattle.exact.specs.Formula.{_//_}
-use Rattle.exact.specs.Ship.{Deadweight, GrossTonnage, Kind, container}
-use Rattle.exact.specs.Index.{whole, C-F, P-ME, sum-P-ME, rated, by-rule, Capacity, light-cargo, light-vehicles}
+use Rattle.exact.specs.Index.{C-F, P-ME, sum-P-ME, rated, by-rule, light-cargo, light-vehicles}
 use Rattle.exact.specs.Ranges.{uses-at, engines-at, method-at, ship-at}
-use Rattle.exact.proofs.Fractions.{_≈_}
-use Rattle.exact.proofs.Formulas.{value}
+use Rattle.exact.proofs.Formulas.{enclosed-≈}
 use Rattle.ship.specs.Refusals.{first-of}
 use Rattle.ship.specs.Figures.{uses-of, engine-of, mains, auxiliary-of, method-of, figures}
 use Rattle.ship.specs.Rules.{trial-refused, tests, refusal-of}
-use Rattle.ship.specs.declared.Consumption.{Consumption}
-use Rattle.ship.specs.declared.Ship.{Ship}
-use Rattle.ship.specs.Ends.{just}
-use Rattle.ship.proofs.Vectors.{reported, S}
 use Rattle.plant.specs.Plant.{grams, main-grams, auxiliary-power, N, ice-factor}
+use Rattle.plant.proofs.Values.{capacity-exact}
 use Rattle.factor.specs.Factor.{cargoOf, factorOf}
 use Rattle.speed.specs.Speeds.{speedOf}
 use Rattle.index.specs.Attained.{lowerOf, upperOf, speed-of, factor-of, lower-of, upper-of, index-of}
 use Rattle.desk.specs.Answers.{answer-of}
-use Rattle.desk.specs.declared.Answer.the-variants.{Bounds}
-
--- A figure: the desk's two bounds of a ship; P_ME of MCR and limit in hundredths and P_AE of total MCR in thousandths of a kW;
--- the Capacity of a type and deadweight in t; and f_c 1 of a bulk carrier's deadweight and cargo volume, of a vehicle carrier's
--- deadweight and gross tonnage.
-pub data Figure : Type 0 where
-  bounds-of : Ship → (lower upper : ℕ) → Figure
-  P-ME-of : (mcr limit hundredths : ℕ) → Figure
-  P-AE-of : (mcr thousandths : ℕ) → Figure
-  Capacity-of : Kind → Deadweight → (tonnes : ℕ) → Figure
-  full-cargo : Deadweight → (volume : ℕ) → Figure
-  full-vehicles : Deadweight → GrossTonnage → Figure
-
--- What it says.
-abbrev pub Holds : Figure → Type 0
-Holds (bounds-of s lower upper) = answer-of s ≡ Bounds (record { lower = lower; upper = upper })
-Holds (P-ME-of mcr limit n) = P-ME mcr limit ≡ n
-Holds (P-AE-of mcr n) = by-rule mcr ≡ n
-Holds (Capacity-of kind dwt n) = value (Capacity kind dwt) ≈ n // 1
-Holds (full-cargo dwt volume) = light-cargo dwt volume ≡ whole 1
-Holds (full-vehicles dwt gross) = light-vehicles dwt gross ≡ whole 1
-
-abbrev pub All : List Figure → Type 0
-All [] = Unit {0}
-All (f ∷ fs) = Holds f × All fs
-
-abbrev measured : Consumption
-measured = reported (just 1800) 3
-
--- Source 3: neither a test report nor a maker's figure.
-abbrev unmeasured : Consumption
-unmeasured = record { sfc = just 0; fuel = 0; source = 3 }
-
-abbrev pub marked-P : List Figure
-marked-P =
-    bounds-of (S 0 measured (just 1400)) 5170857 5170858
-    ∷ bounds-of (S 1 measured (just 1400)) 4924625 4924626
-    ∷ bounds-of (S 0 unmeasured (just 1400)) 5437771 5437772
-    ∷ bounds-of (S 0 (reported (record { low = 1750; high = 1800 }) 3) (record { low = 1350; high = 1400 })) 5037400 5362371
-    ∷ P-ME-of 8000 7000 581000
-    ∷ P-ME-of 8000 7228 599924
-    ∷ P-ME-of 8000 7229 600000
-    ∷ P-AE-of 9999 499950
-    ∷ P-AE-of 10000 500000
-    ∷ P-AE-of 10001 500025
-    ∷ Capacity-of container (record { tonnes = 80000 }) 56000
-    ∷ full-cargo (record { tonnes = 55000 }) 100000
-    ∷ full-vehicles (record { tonnes = 35000 }) (record { gt = 100000 })
-    ∷ []
+use Rattle.desk.specs.Figures.{All, marked-P}
 
 pub proved : All marked-P
-unfolding answer-of refusal-of first-of tests trial-refused figures uses-of engine-of mains auxiliary-of method-of ship-at uses-at engines-at method-at C-F P-ME sum-P-ME rated by-rule Capacity light-cargo light-vehicles value grams main-grams auxiliary-power N ice-factor cargoOf factorOf speedOf lowerOf upperOf speed-of factor-of lower-of upper-of index-of
-proved = (refl, (refl, (refl, (refl, (refl, (refl, (refl, (refl, (refl, (refl, (omega arith, (refl, (refl, tt)))))))))))))
+unfolding answer-of refusal-of first-of tests trial-refused figures uses-of engine-of mains auxiliary-of method-of ship-at uses-at engines-at method-at C-F P-ME sum-P-ME rated by-rule light-cargo light-vehicles grams main-grams auxiliary-power N ice-factor cargoOf factorOf speedOf lowerOf upperOf speed-of factor-of lower-of upper-of index-of
+proved = (refl, (refl, (refl, (refl, (refl, (refl, (refl, (refl, (refl, (refl, (enclosed-≈ (capacity-exact _ _) (omega arith), (refl, (refl, tt)))))))))))))

@@ -1,4 +1,5 @@
--- f_c as a pair, by a name that is kept shut: its laws (proofs/Laws.antt) are all that may be used of it.
+-- f_c as a pair, by a name that other crates keep shut: its laws (proofs/Laws.antt) are all that they use of it. Only desk opens it, to
+-- compute the figures worked by hand.
 -- Assumes nothing.
 use Prim.Native.Nat.{ℕ, _+_, _*_, _^_, _≤_}
 use lib.Dec.{ltb}

@@ -22,7 +22,7 @@ use Rattle.plant.proofs.Growth.{end-within, N-within, N-inside, capacity-within
 use Rattle.factor.specs.Factor.{one}
 use Rattle.factor.proofs.Laws.{Follows, factor-law}
 use Rattle.speed.specs.Speeds.{exactly, Fitting, Admitted, speedOf, Speed}
-use Rattle.speed.proofs.Laws.{speed-law}
+use Rattle.speed.proofs.Laws.{declared-exact, speed-law}
 use Rattle.speed.proofs.Sides.{at}
 use Rattle.index.specs.Attained.{millionths-down, millionths-up, Sized, load, speed-of, factor-of, lower-of, upper-of}
 use Rattle.index.proofs.Rounding.{lower-floor, upper-ceil, upper-small, upper-some, lower-order, upper-order, bounds-near}
@@ -193,8 +193,8 @@ module _ (top : Bool) {r : Figures Range} (a : Accepted r) where
     knots = end (not top) v * 10000
 
     speed-exact : speed-of (at-end top r) ≡ exactly knots
-    unfolding ship-at speed-of method-at speedOf knots
-    speed-exact = rw method
+    unfolding ship-at speed-of method-at knots
+    speed-exact = rw method (declared-exact _ _ _ _)
 
     factor-exact : factor-of (at-end top r) ≡ one
     factor-exact = factor-is .one-where light
@@ -238,8 +238,8 @@ module _ (top : Bool) {r : Figures Range} (a : Accepted r) where
 
 -- A declared speed by name grows with the speed.
 declared-order : (kind : Kind) (dwt : Deadweight) {v w : ℕ} (P P' : ℕ) → v ≤ w → (speedOf (declared v) kind dwt P .lo ≤ speedOf (declared w) kind dwt P' .lo) × (speedOf (declared v) kind dwt P .hi ≤ speedOf (declared w) kind dwt P' .hi)
-unfolding speedOf
-declared-order kind dwt P P' h = (mul-le-mul-right 10000 h, mul-le-mul-right 10000 h)
+declared-order kind dwt {v} {w} P P' h =
+    rw (declared-exact v kind dwt P, declared-exact w kind dwt P') (mul-le-mul-right 10000 h, mul-le-mul-right 10000 h)
 
 -- A ship inside the ranges has its own bounds inside the record's.
 pub inside-lower : {r : Figures Range} {f : Figures ℕ} → Inside r f → Settled (r .method) (r .engines)

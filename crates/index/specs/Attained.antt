@@ -1,4 +1,5 @@
--- The bounds of one ship's index, by names that are kept shut: their laws (proofs/Laws.antt) are all that may be used of them.
+-- The bounds of one ship's index, by names that other crates keep shut: their laws (proofs/Laws.antt) are all that they use of them. Only
+-- desk opens them, to compute the figures worked by hand.
 -- Assumes nothing.
 use Prim.Native.Nat.{ℕ, _*_, _/_, _^_, _≤_}
 use Rattle.exact.specs.Ship.{Figures}

@@ -1,5 +1,6 @@
 -- The law of the speed by name, for every method: what its users may know of it. Assumes nothing.
 use Prim.Native.Nat.{ℕ, _*_}
+use mathlib.Core.Path.{_≡_, refl}
 use native.Mathlib.Omega.{arith}
 use Rattle.exact.specs.Formula.{_//_, below, above, lit, by-lit}
 use Rattle.exact.specs.Ship.{Deadweight, Kind, Method, declared, trial, design-trial, statistical}
@@ -10,6 +11,11 @@ use Rattle.speed.specs.Speeds.{exactly, Admitted, speedOf, Speed}
 use Rattle.speed.proofs.MethodFour.{statistical-speed}
 use Rattle.speed.proofs.Trials.{trial-speed}
 use Rattle.speed.proofs.Designs.{design-speed}
+
+-- A declared speed is exactly itself.
+pub declared-exact : (v : ℕ) (kind : Kind) (dwt : Deadweight) (P : ℕ) → speedOf (declared v) kind dwt P ≡ exactly (v * 10000)
+unfolding speedOf
+declared-exact v kind dwt P = refl
 
 declared-speed : {v : ℕ} → Within 500 6000 v → Speed (lit (v // 100)) (exactly (v * 10000))
 declared-speed {v} w =

@@ -7,3 +7,4 @@ pub mod MethodFour
 pub mod Trials
 pub mod Designs
 pub mod Laws
+pub mod Worked

@@ -1,4 +1,5 @@
--- The speed of each method as a pair, by a name that is kept shut: its laws (proofs/Laws.antt) are all that may be used of it.
+-- The speed of each method as a pair, by a name that other crates keep shut: its laws (proofs/Laws.antt) are all that they use of it. Only
+-- desk opens it, to compute the figures worked by hand.
 -- Assumes nothing.
 use mathlib.Core.Path.{_≡_}
 use mathlib.Core.List.{[], _∷_}

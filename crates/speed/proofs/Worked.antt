@@ -1,0 +1,31 @@
+-- The trial worked by hand: 10.00 knots at 2,000 kW, where the sum of P_ME is 6,750 kW, make 15 knots. Assumes nothing.
+use Prim.Native.Nat.{ℕ, _*_, _≤_}
+use native.Mathlib.Omega.{arith}
+use Rattle.exact.specs.Formula.{Frac, _//_, _≼_, _·_, _↥_, Side, below, above, lit, bounds, by-lit, by-product, by-quotient, by-power}
+use Rattle.exact.specs.Ship.{Deadweight, Kind, trial}
+use Rattle.exact.specs.Index.{V-ref}
+use Rattle.exact.proofs.Fractions.{_≈_, lies-refl, lies-≈}
+use Rattle.exact.proofs.Formulas.{consistent}
+use Rattle.ship.specs.Accepted.{Within}
+use Rattle.speed.specs.Speeds.{Admitted, speedOf}
+use Rattle.speed.proofs.Laws.{speed-law}
+
+module _ (kind : Kind) (dwt : Deadweight) where
+  -- 10 × (6,750 / 2,000) ^ (1/3) is 15 on both sides: 27/8 is the cube of 3/2.
+  fifteen : (s : Side) → bounds s (V-ref (trial 1000 2000) kind dwt (lit (675000 // 100))) (15 // 1)
+  unfolding V-ref
+  fifteen s =
+      let ratio : 27 // 8 · 2000 // 1 ≈ 675000 // 100 = omega arith in
+      let cube : 3 // 2 ↥ 3 ≈ 27 // 8 ↥ 1 = omega arith in
+      let knots : 15 // 1 ≈ 1000 // 100 · 3 // 2 = omega arith in
+      by-product {v = 3 // 2} (by-lit (lies-refl s _))
+      (by-power {u = 27 // 8} (by-quotient {v = 2000 // 1} (by-lit (lies-refl s _)) (by-lit (lies-refl _ _)) (omega arith) (lies-≈ s ratio)) (record { whole = lies-≈ s cube }))
+      (lies-≈ s knots)
+
+  pub fifteen-knots : Within 100 600000 (dwt .tonnes) → (speedOf (trial 1000 2000) kind dwt 675000 .lo ≤ 15000000) × (15000000 ≤ speedOf (trial 1000 2000) kind dwt 675000 .hi)
+  fifteen-knots w =
+      let asked : Admitted (trial 1000 2000) kind dwt 675000 = record { deadweight = w; power = omega arith; method = omega arith } in
+      let v = speed-law (trial 1000 2000) kind dwt 675000 asked in
+      let low : speedOf (trial 1000 2000) kind dwt 675000 .lo // 1000000 ≼ 15 // 1 = consistent _ (v .encloses .low) (fifteen above) in
+      let high : 15 // 1 ≼ speedOf (trial 1000 2000) kind dwt 675000 .hi // 1000000 = consistent _ (fifteen below) (v .encloses .high) in
+      (omega (arith, low .cross), omega (arith, high .cross))
