@@ -105,7 +105,7 @@ fn auxiliary_in(block: &[u8]) -> Consumption
 }
 
 // The record that stands in a block.
-pub fn ship_in(block: &[u8]) -> Ship
+pub(crate) fn ship_in(block: &[u8]) -> Ship
     requires { ⌜ length (now block) ≡ 512 ⌝ }
     ensures { λ r. ⌜ r ≡ ship-in (now (block .entry)) ⌝ }
 {
@@ -157,7 +157,7 @@ fn zeros_broken(block: &[u8]) -> bool
 }
 
 // The first rule that a block and the record that stands in it break, or none.
-pub fn block_refusal(block: &[u8], ship: Ship) -> Refusal
+pub(crate) fn block_refusal(block: &[u8], ship: Ship) -> Refusal
     requires { ⌜ length (now block) ≡ 512 ⌝ }
     ensures { λ r. ⌜ r ≡ first-of (block-tests (now (block .entry)) ship) Refusal.None ⌝ }
 {

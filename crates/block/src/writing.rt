@@ -88,7 +88,7 @@ fn write_body(part: &mut [u8], s: Ship)
 }
 
 // The block of a ship, over a part of 512 bytes.
-pub fn write_block(part: &mut [u8], s: Ship)
+pub(crate) fn write_block(part: &mut [u8], s: Ship)
     requires { ⌜ length (now part) ≡ 512 ⌝ }
     ensures { λ r. ⌜ now (part .exit) ≡ encode s ⌝ }
 {

@@ -33,7 +33,7 @@ fn put_digits(part: &mut [u8], n: u64)
     }
 }
 
-// The digits of n from `at` on, and a byte after them; answers the place behind that.
+// The digits of n from `at` on, and a byte after them; answers the place behind that. A line has room: `put_lines` tests the buffer.
 pub fn put_number(out: &mut [u8], at: usize, n: u64, after: u8) -> usize
     requires { ⌜ at + 21 ≤ length (now out) ⌝ }
     ensures { λ r. ⌜ Put (now (out .entry)) at (decimal n ++ (after ∷ [])) (now (out .exit)) r ⌝ }
@@ -57,7 +57,7 @@ fn copy(part: &mut [u8], text: &[u8])
     }
 }
 
-// The text from `at` on; answers the place behind it.
+// The text from `at` on; answers the place behind it. It has room as a number has.
 pub fn put_text(out: &mut [u8], at: usize, text: &[u8]) -> usize
     requires { ⌜ at + length (now text) ≤ length (now out) ⌝ }
     ensures { λ r. ⌜ Put (now (out .entry)) at (now (text .entry)) (now (out .exit)) r ⌝ }

@@ -19,7 +19,7 @@ use Rattle.exact.specs.Index.{whole, f-c, speed, index}
 use Rattle.exact.proofs.Formulas.{consistent}
 use Rattle.exact.proofs.Favour.{stands-most, stands-least, inside-enclosed, ship-inside, low-inside, high-inside}
 use Rattle.ship.specs.Figures.{figures}
-use Rattle.ship.specs.Refusals.{number-of, First}
+use Rattle.ship.specs.Refusals.{number-of, First, given}
 use Rattle.ship.specs.Rules.{tests, refusal-of}
 use Rattle.ship.specs.Accepted.{Accepted}
 use Rattle.ship.specs.declared.Refusal.{Refusal}
@@ -96,6 +96,10 @@ block-zero b = zero-bounded (read-refusal b) _
 
 pub block-no-bound : (b : List ℕ) → (read-refusal b ≡ None → ⊥) → (lower-in (answer-of-block b) ≡ 0) × (upper-in (answer-of-block b) ≡ 0)
 block-no-bound b h = rw (block-refused b h) (refl, refl)
+
+-- A piece of a block, or more than one, is refused with 1.
+pub not-512 : (b : List ℕ) → (length b ≡ 512 → ⊥) → number-in (answer-of-block b) ≡ 1
+not-512 b h = block-number b Length (rw (ne-eqb (length b) 512 h) given)
 
 -- An accepted block is answered as its record is.
 pub block-as-record : (b : List ℕ) → read-refusal b ≡ None → answer-of-block b ≡ answer-of (read-of b .ship)

@@ -44,7 +44,7 @@ pub fn all_zero(bytes: &[u8]) -> bool
     zero
 }
 
-// The number in the `width` bytes from `at`, lowest first.
+// The number in the `width` bytes from `at`, lowest first. A block has 512 bytes wherever a field is read: rule 1.
 pub fn number_at(bytes: &[u8], at: usize, width: usize) -> u64
     requires { ⌜ (width ≤ 8) × (at + width ≤ length (now bytes)) ⌝ }
     ensures { λ r. ⌜ r ≡ number-at (now (bytes .entry)) at width ⌝ }
@@ -72,7 +72,8 @@ pub fn put(bytes: &mut [u8], number: u64)
     }
 }
 
-// The first bytes become the numbers', each at its width, one after the other; the others stay.
+// The first bytes become the numbers', each at its width, one after the other; the others stay. The block's table has a width for each
+// number, and rule 17 a part for them all.
 pub fn put_run(part: &mut [u8], widths: &[usize], numbers: &[u64])
     requires { ⌜ length (now widths) ≡ length (now numbers) ⌝ }
     requires { ⌜ total (now widths) ≤ length (now part) ⌝ }

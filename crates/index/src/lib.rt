@@ -39,7 +39,7 @@ fn upper(n: u64, load: u64, v: u64, c: u64) -> u64
     (q + (f - 1)) / f
 }
 
-// The speed bounds of a record. Only with a declared speed do the ends of its ranges enter; by any other method the most and
+// The speed bounds of a record that rules 4 to 16 leave. Only with a declared speed do the ends of its ranges enter; by any other method the most and
 // the least favourable ship have one speed.
 pub fn speeds(s: Ship) -> SpeedBounds
     requires { ⌜ refusal-of s ≡ refusal.None ⌝ }
@@ -54,7 +54,7 @@ pub fn speeds(s: Ship) -> SpeedBounds
     SpeedBounds { most, least: most }
 }
 
-// The bounds of a record's index from its speed bounds.
+// The bounds of a record's index from its own speed bounds, where rules 4 to 16 leave it.
 pub fn attained(s: Ship, v: SpeedBounds) -> Index
     requires { ⌜ (refusal-of s ≡ refusal.None) × (v ≡ speeds-of (figures s)) ⌝ }
     ensures { λ r. ⌜ r ≡ index-of (figures s) ⌝ }

@@ -2,7 +2,7 @@
 -- Assumes nothing.
 use Prim.Native.Nat.{ℕ, zero, suc, _+_, _*_, _-_, _≤_, _<_}
 use mathlib.Core.Path.{_≡_, refl, sym, ap, ap₂, _∙_}
-use mathlib.Core.List.{List, _++_, append-assoc, append-nil}
+use mathlib.Core.List.{List, [], _++_, append-assoc, append-nil}
 use mathlib.Core.Bool.{Bool, true, false}
 use native.Mathlib.Numerals.{add-one}
 use native.Mathlib.Omega.{arith}
@@ -46,6 +46,11 @@ with-room {out} n b k e h p = put-as (ap (lines-to n b) e ∙ rw (le-leb (pieces
 pub no-room : (out : List ℕ) (n : ℕ) (b : List ℕ) → length out < pieces b * 84 → Put out 0 (lines-within out n b) out 0
 unfolding lines-within
 no-room out n b h = rw (lt-leb (pieces b * 84) (length out) h) (put-none out 0 (omega arith))
+
+-- An empty file has no lines.
+pub lines-none : (n : ℕ) → lines-of n [] ≡ []
+unfolding lines-of lines-to
+lines-none n = refl
 
 -- A file read in two goes, the first of k whole blocks, has the lines of both.
 module _ (n k : ℕ) (a b : List ℕ) (whole : length a ≡ k * 512) where

@@ -2,7 +2,7 @@
 // asked and up to four numbers, and its answer is a line of numbers, or `-` where the numbers are outside the function's domain.
 // Asked is 1 the square root of a; 2 its cube root; 3 the cube root of a/b; 4 a/b in millionths, rounded down and up;
 // 5 the power (a/b)^(c/d).
-ghost use Prim.Native.Nat.{_<_};
+use fields::number_at;
 use libc::STDIN_FILENO;
 use libc::STDOUT_FILENO;
 
@@ -19,22 +19,10 @@ struct Word {
     value: u64,
 }
 
-fn wide(x: u8) -> u64
-    ensures { λ r. ⌜ r < 256 ⌝ }
-{
-    x as u64
-}
-
-fn half(a: u8, b: u8, c: u8, d: u8) -> u64
-    ensures { λ r. ⌜ r < 4294967296 ⌝ }
-{
-    wide(a) + 256 * wide(b) + 65536 * wide(c) + 16777216 * wide(d)
-}
-
 fn next_word() -> Word {
     let mut b = [0u8; 8];
     let got = io::read_full(STDIN_FILENO, &mut b);
-    let value = half(b[0], b[1], b[2], b[3]) + 4294967296 * half(b[4], b[5], b[6], b[7]);
+    let value = number_at(&b, 0, 8);
     Word {
         whole: got == 8,
         value,

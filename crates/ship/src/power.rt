@@ -11,7 +11,7 @@ ghost use Rattle.ship.specs.Record.{no-engine};
 ghost use Rattle.ship.specs.Figures.{mains};
 ghost use Rattle.ship.specs.Rules.{engine-refused, capacity};
 
-// P_ME of one engine, in hundredths of a kW.
+// P_ME of one engine, in hundredths of a kW. Rule 9 bounds MCR and limit.
 pub fn power(mcr: u64, limit: u64) -> u64
     requires { ⌜ (mcr ≤ 120000) × (limit ≤ 120000) ⌝ }
     ensures { λ r. ⌜ (r ≡ P-ME mcr limit) × (r ≤ 9000000) ⌝ }
@@ -24,8 +24,8 @@ pub fn power(mcr: u64, limit: u64) -> u64
     if limited < full { limited } else { full }
 }
 
-// The sum of P_ME over the engines that are used, each at its low MCR, in hundredths of a kW.
-pub fn power_sum(engines: [Engine; 4], used: u64) -> u64
+// The sum of P_ME over the engines that are used, each at its low MCR, in hundredths of a kW. Rule 15 asks for it once rule 9 holds.
+pub(crate) fn power_sum(engines: [Engine; 4], used: u64) -> u64
     requires { ⌜ (used ≤ 4) × ((i : ℕ) → i < used → engine-refused (getD engines i no-engine) ≡ false) ⌝ }
     ensures { λ r. ⌜ (r ≡ sum-P-ME (engines-at low (mains used engines))) × (r ≤ 36000000) ⌝ }
 {
@@ -40,7 +40,7 @@ pub fn power_sum(engines: [Engine; 4], used: u64) -> u64
     sum
 }
 
-// Capacity in hundredths of a tonne.
+// Capacity in hundredths of a tonne. Rule 6 bounds the deadweight.
 pub fn capacity_of(kind: u64, deadweight: Deadweight) -> u64
     requires { ⌜ deadweight .tonnes ≤ 600000 ⌝ }
     ensures { λ r. ⌜ (r ≡ capacity kind deadweight) × (r ≤ 60000000) ⌝ }
