@@ -2,41 +2,73 @@
 use libc::STDIN_FILENO;
 use libc::STDOUT_FILENO;
 ghost use mathlib.Core.Path.{_≡_};
-ghost use Prim.Native.Nat.{_+_, _≤_};
+ghost use Prim.Native.Nat.{_≤_};
 ghost use lib.ListN.{length, take};
 ghost use Rattle.lines.specs.Lines.{lines-of};
+ghost use Rattle.fleet.specs.Batches.{first-batch, batch-after, Begun, Follows};
 
-// The lines of at most 128 blocks, the first of which has the number `first`; 84 bytes are the longest line, so there is room.
-fn put_batch(text: &mut [u8], first: u32, blocks: &[u8]) -> usize
-    requires { ⌜ length (now text) ≡ 10752 ⌝ }
-    requires { ⌜ length (now blocks) ≤ 65536 ⌝ }
-    ensures { λ r. ⌜ (r ≤ length (now (text .exit))) × (r ≡ length (take r (now (text .exit)))) ⌝ }
-    ensures { λ r. ⌜ take r (now (text .exit)) ≡ lines-of first (now (blocks .entry)) ⌝ }
-{
-    lines::put_lines(text, first, blocks)
+// The batch of up to 128 blocks that begins with block `first`; `more` is whether there is one.
+struct Batch {
+    first: u32,
+    more: bool,
 }
 
-// The lines of the next 128 blocks of standard input, in one write; and whether to go on.
-fn next(first: u32) -> bool
-    requires { ⌜ first + 128 ≤ 65536 ⌝ }
+// What a batch comes to: the first `end` bytes of the text are to be written, and then comes `next`.
+struct Step {
+    end: usize,
+    next: Batch,
+}
+
+fn start() -> Batch
+    ensures { λ r. ⌜ r ≡ first-batch ⌝ }
+{
+    Batch {
+        first: 0,
+        more: true,
+    }
+}
+
+// The lines of a batch, whose blocks are the first `got` bytes of `blocks`, and the batch after it. No input or output is done here,
+// so the contract says all of it. 84 bytes are the longest line, so there is room for 128.
+fn put_batch(text: &mut [u8], batch: Batch, blocks: &[u8], got: usize) -> Step
+    requires { ⌜ length (now text) ≡ 10752 ⌝ }
+    requires { ⌜ (length (now blocks) ≡ 65536) × (got ≤ 65536) ⌝ }
+    requires { ⌜ Begun batch ⌝ }
+    ensures { λ r. ⌜ (r .end ≤ length (now (text .exit))) × (r .end ≡ length (take (r .end) (now (text .exit)))) ⌝ }
+    ensures { λ r. ⌜ take (r .end) (now (text .exit)) ≡ lines-of (batch .first) (take got (now (blocks .entry))) ⌝ }
+    ensures { λ r. ⌜ r .next ≡ batch-after batch got ⌝ }
+{
+    let first = batch.first;
+    let after = first + 128;
+    let more = (got == 65536) & (after < 65536);
+    let end = lines::put_lines(text, first, &blocks[..got]);
+    Step {
+        end,
+        next: Batch { first: after, more },
+    }
+}
+
+// Reads a batch and writes its lines in one write; answers what comes after it, which is nothing where the write fails.
+fn next(batch: Batch) -> Batch
+    requires { ⌜ Begun batch ⌝ }
+    ensures { λ r. ⌜ Follows batch r ⌝ }
 {
     let mut blocks = [0u8; 65536];
     let got = io::read_full(STDIN_FILENO, &mut blocks);
     let mut text = [0u8; 10752];
-    let end = put_batch(&mut text, first, &blocks[..got]);
-    if !io::write_all(STDOUT_FILENO, &text[..end]) {
-        return false;
+    let step = put_batch(&mut text, batch, &blocks, got);
+    let end = step.end;
+    let written = io::write_all(STDOUT_FILENO, &text[..end]);
+    Batch {
+        first: step.next.first,
+        more: written & step.next.more,
     }
-    got == 65536
 }
 
-// 65,536 blocks are 512 such reads, so that no byte beyond them is asked for.
+// 512 batches at most, so that no byte beyond 65,536 blocks is asked for.
 fn main() {
-    let mut first: u32 = 0;
-    while first < 65536 {
-        if !next(first) {
-            return;
-        }
-        first += 128;
+    let mut batch = start();
+    while batch.more {
+        batch = next(batch);
     }
 }
