@@ -1,34 +1,19 @@
 -- What the numbers of a record come to, as the code tests them.
 -- Assumes nothing.
-use Prim.Native.Nat.{ℕ, zero, suc, _+_, _*_, _≤_, _<_}
-use mathlib.Core.Path.{_≡_, refl}
+use Prim.Native.Nat.{ℕ, _+_, _*_, _≤_, _<_}
+use mathlib.Core.Path.{_≡_}
 use mathlib.Core.Bool.{Bool}
-use native.Mathlib.Numerals.{unary-clauses}
 use borrow.Author.Tests.{eq-eqb, ne-eqb, lt-ltb, le-ltb}
-use Rattle.exact.specs.Ship.{diesel}
 use Rattle.exact.specs.Index.{C-F, by-rule}
 use Rattle.exact.specs.Ranges.{uses-at}
-use Rattle.ship.specs.Figures.{range-of, fuel-of, uses-of, engine-of, auxiliary-of}
-use Rattle.ship.specs.Accepted.{Within, Measured, Rated, Supplied}
+use Rattle.ship.specs.Figures.{range-of, fuel-of, uses-of, Fuelled, engine-of, auxiliary-of}
+use Rattle.ship.specs.Accepted.{Within, Measured, Supplied}
 use Rattle.ship.specs.declared.Consumption.{Consumption}
 use Rattle.ship.specs.declared.Engine.{Engine}
-use Rattle.plant.specs.Plant.{end, grams, auxiliary-power}
+use Rattle.plant.specs.Plant.{end, Entered, grams, auxiliary-power}
 use Rattle.plant.proofs.Growth.{end-within, grams-within, engine-limit}
 
--- ── A fuel, a consumption ───────────────────────────────────────────────────────────────────
-
--- A number that is no fuel's counts as the first; no accepted record has one.
-pub no-fuel : (n : ℕ) → (((((((Unit {0} × (n ≡ 1 → ⊥)) × (n ≡ 2 → ⊥)) × (n ≡ 3 → ⊥)) × (n ≡ 4 → ⊥)) × (n ≡ 5 → ⊥)) × (n ≡ 6 → ⊥)) × (n ≡ 7 → ⊥)) × (n ≡ 8 → ⊥) → fuel-of n ≡ diesel
-no-fuel zero h = refl
-no-fuel (suc zero) h = absurd (h .0 .0 .0 .0 .0 .0 .0 .1 refl)
-no-fuel (suc (suc zero)) h = absurd (h .0 .0 .0 .0 .0 .0 .1 refl)
-no-fuel (suc (suc (suc zero))) h = absurd (h .0 .0 .0 .0 .0 .1 refl)
-no-fuel (suc (suc (suc (suc zero)))) h = absurd (h .0 .0 .0 .0 .1 refl)
-no-fuel (suc (suc (suc (suc (suc zero))))) h = absurd (h .0 .0 .0 .1 refl)
-no-fuel (suc (suc (suc (suc (suc (suc zero)))))) h = absurd (h .0 .0 .1 refl)
-no-fuel (suc (suc (suc (suc (suc (suc (suc zero))))))) h = absurd (h .0 .1 refl)
-no-fuel (suc (suc (suc (suc (suc (suc (suc (suc zero)))))))) h = absurd (h .1 refl)
-no-fuel (suc (suc (suc (suc (suc (suc (suc (suc (suc n))))))))) h = simp unary-clauses
+-- ── A consumption ───────────────────────────────────────────────────────────────────────────
 
 module _ (top : Bool) (stand-in : ℕ) (s : Within 100 215 stand-in) (c : Consumption) (m : Measured (uses-of c)) where
   measured : {r : ℕ} → r ≡ grams stand-in (uses-at (end top) (uses-of c)) → (r ≡ grams stand-in (uses-at (end top) (uses-of c))) × (r ≤ 12824000)
@@ -48,11 +33,11 @@ module _ (top : Bool) (stand-in : ℕ) (s : Within 100 215 stand-in) (c : Consum
 pub record Usable (top : Bool) (e : Engine) : Type 0 where
   pub mcr : end top (range-of (e .mcr)) ≤ 120000
   pub limit : e .limit ≤ 120000
-  pub uses : Measured (uses-of (e .uses))
+  pub uses : Measured (uses-of (e .uses)) × Fuelled (e .uses)
 
-pub usable : (top : Bool) (e : Engine) → Rated (engine-of e) → Usable top e
+pub usable : (top : Bool) (e : Engine) → Entered e → Usable top e
 unfolding engine-of
-usable top e r = record { mcr = end-within top (r .mcr) .most; limit = engine-limit r; uses = r .uses }
+usable top e (r, f) = record { mcr = end-within top (r .mcr) .most; limit = engine-limit r; uses = (r .uses, f) }
 
 -- ── P_AE ────────────────────────────────────────────────────────────────────────────────────
 

@@ -1,22 +1,23 @@
 -- What the emissions and the Capacity of a record with no refusal are worked out from.
 -- Assumes nothing.
-use Prim.Native.Nat.{ℕ, _+_, _*_, _≤_}
+use Prim.Native.Nat.{ℕ, _+_, _*_, _≤_, _<_}
 use mathlib.Core.Path.{_≡_, refl, _∙_}
 use mathlib.Core.Bool.{Bool, true, false}
 use mathlib.Core.List.{List}
 use native.Mathlib.Omega.{arith}
-use lib.ListN.{length}
+use lib.ListN.{length, getD}
 use Rattle.exact.specs.Ship as exact
 use Rattle.exact.specs.Ranges.{Range, uses-at, engines-at, ship-at}
 use Rattle.exact.specs.Index.{sum-P-ME, rated}
-use Rattle.ship.specs.Figures.{kind-of, deadweight-of, uses-of, mains, auxiliary-of, figures}
+use Rattle.ship.specs.Record.{no-engine}
+use Rattle.ship.specs.Figures.{kind-of, deadweight-of, uses-of, Fuelled, mains, auxiliary-of, figures}
 use Rattle.ship.specs.Rules.{capacity, refusal-of}
-use Rattle.ship.specs.Accepted.{Within, Measured, Rated, Each, Supplied, hundredths, Accepted}
+use Rattle.ship.specs.Accepted.{Within, Measured, Supplied, hundredths, Accepted}
 use Rattle.ship.specs.declared.Ship.{Ship}
 use Rattle.ship.specs.declared.Refusal.the-variants as refusal
 use Rattle.ship.proofs.Right.{right}
-use Rattle.ship.proofs.Figured.{accepted, capacity-same}
-use Rattle.plant.specs.Plant.{end, at-end, grams, main-grams, auxiliary-power, N, sums-of}
+use Rattle.ship.proofs.Figured.{rated-entry, accepted, capacity-same}
+use Rattle.plant.specs.Plant.{end, at-end, Entered, grams, main-grams, auxiliary-power, N, sums-of}
 use Rattle.plant.specs.declared.Sums.{Sums}
 use Rattle.plant.proofs.Growth.{bounded, N-within, capacity-within}
 
@@ -26,9 +27,9 @@ mains-at s top = engines-at (end top) (mains (s .particulars .used) (s .engines)
 
 pub record Workable (s : Ship) : Type 0 where
   pub used : s .particulars .used ≤ 4
-  pub engines : Each Rated (mains (s .particulars .used) (s .engines))
+  pub engines : (i : ℕ) → i < s .particulars .used → Entered (getD (s .engines) i no-engine)
   pub supplied : Supplied (auxiliary-of (s .particulars .auxiliary) (s .particulars .table))
-  pub uses : Measured (uses-of (s .auxiliary))
+  pub uses : Measured (uses-of (s .auxiliary)) × Fuelled (s .auxiliary)
 
 -- Their sums, and the emissions as the code adds them up.
 pub record Summed (s : Ship) (top : Bool) (t : Sums) : Type 0 where
@@ -47,7 +48,13 @@ module _ (s : Ship) (four : length (s .engines) ≡ 4) (none : refusal-of s ≡ 
   unfolding figures
   workable =
       let a = accepted s four none in
-      record { used = right s none .used .most; engines = a .engines; supplied = a .auxiliary; uses = a .auxiliary-uses }
+      let r = right s none in
+      record {
+        used = r .used .most;
+        engines = λ i h. (rated-entry _ _ (r .entries i h), r .entries i h .uses .fuelled);
+        supplied = a .auxiliary;
+        uses = (a .auxiliary-uses, r .auxiliary-uses .fuelled);
+      }
 
   added : (top : Bool) {a g : ℕ} → a ≡ auxiliary-power (auxiliary-of (s .particulars .auxiliary) (s .particulars .table)) (rated (mains-at s top))
       → g ≡ grams 215 (uses-at (end top) (uses-of (s .auxiliary))) → 10 * main-grams (mains-at s top) + a * g ≡ N (at-end top (figures s))

@@ -1,6 +1,6 @@
 -- The sums over the engines that are used, one engine more at a time.
 -- Assumes nothing.
-use Prim.Native.Nat.{ℕ, zero, suc, _+_, _*_, _≤_, _<_}
+use Prim.Native.Nat.{ℕ, zero, suc, _+_, _*_, _<_}
 use mathlib.Core.Path.{_≡_, refl}
 use mathlib.Core.List.{List, [], _∷_}
 use native.Mathlib.Numerals.{add-one}
@@ -11,17 +11,8 @@ use Rattle.exact.specs.Index.{P-ME, sum-P-ME, rated}
 use Rattle.exact.specs.Ranges.{Range, uses-at, engines-at}
 use Rattle.ship.specs.Record.{no-engine}
 use Rattle.ship.specs.Figures.{range-of, uses-of, engine-of, mains}
-use Rattle.ship.specs.Accepted.{Each, one-more}
 use Rattle.ship.specs.declared.Engine.{Engine}
 use Rattle.plant.specs.Plant.{grams, main-grams}
-
--- What holds of each engine that is used holds of the i-th.
-pub each-at : {P : exact.Engine Range → Type 0} (n i : ℕ) (es : List Engine) → Each P (mains n es) → i < n → n ≤ length es → P (engine-of (getD es i no-engine))
-unfolding mains
-each-at zero i es h k l = absurd (omega arith)
-each-at (suc n) i [] h k l = absurd (omega arith)
-each-at (suc n) zero (e ∷ es) (one-more h hs) k l = h
-each-at (suc n) (suc i) (e ∷ es) (one-more h hs) k l = each-at n i es hs (omega arith) (omega arith)
 
 -- What an entry stands for, at one end.
 abbrev pub at : (Range → ℕ) → Engine → exact.Engine ℕ

@@ -6,6 +6,9 @@ use mathlib.Core.List.{List, [], _∷_}
 use Rattle.exact.specs.Ship.{Consumption, recorded, neither, Engine, Auxiliary, rule, table, Figures}
 use Rattle.exact.specs.Ranges.{Range, low, high, ship-at}
 use Rattle.exact.specs.Index.{if, C-F, P-ME, sum-P-ME, rated, by-rule}
+use Rattle.ship.specs.declared.Engine as entry
+use Rattle.ship.specs.Figures.{Fuelled, engine-of}
+use Rattle.ship.specs.Accepted.{Rated}
 use Rattle.plant.specs.declared.Sums.{Sums}
 
 -- One end of a range.
@@ -16,6 +19,10 @@ end false = low
 -- A ship at one end of every range, of the speed at the other: `at-end false` is the most favourable, `at-end true` the least.
 abbrev pub at-end : Bool → Figures Range → Figures ℕ
 at-end top = ship-at (end top) (end (not top))
+
+-- An engine entry as the rules leave it: its figures, and the number of its fuel.
+abbrev pub Entered : entry.Engine → Type 0
+Entered e = Rated (engine-of e) × Fuelled (e .uses)
 
 -- C_F × SFC in 1/10,000 g/kWh: thousandths times tenths.
 unfoldable pub grams : ℕ → Consumption ℕ → ℕ

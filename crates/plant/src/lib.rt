@@ -4,15 +4,17 @@ use ship::Engine;
 use ship::Range;
 use ship::Ship;
 ghost use mathlib.Core.Path.{_≡_};
-ghost use Prim.Native.Nat.{_≤_};
+ghost use Prim.Native.Nat.{ℕ, _≤_, _<_};
 ghost use lib.Dec.{eqb};
+ghost use lib.ListN.{getD};
 ghost use Rattle.exact.specs.Index.{C-F, sum-P-ME};
 ghost use Rattle.exact.specs.Ranges.{uses-at, engines-at};
-ghost use Rattle.ship.specs.Figures.{range-of, fuel-of, uses-of, mains, auxiliary-of, figures};
-ghost use Rattle.ship.specs.Accepted.{Within, Measured, Rated, Each, Supplied, hundredths};
+ghost use Rattle.ship.specs.Record.{no-engine};
+ghost use Rattle.ship.specs.Figures.{range-of, fuel-of, uses-of, Fuelled, mains, auxiliary-of, figures};
+ghost use Rattle.ship.specs.Accepted.{Within, Measured, Supplied, hundredths};
 ghost use Rattle.ship.specs.Rules.{refusal-of};
 ghost use Rattle.ship.specs.declared.Refusal.the-variants as refusal;
-ghost use Rattle.plant.specs.Plant.{end, at-end, grams, auxiliary-power, N, ice-factor, sums-of};
+ghost use Rattle.plant.specs.Plant.{end, at-end, Entered, grams, auxiliary-power, N, ice-factor, sums-of};
 
 // Over the main engines: P_ME in 1/100 kW, MCR in kW, P_ME × C_F × SFC in 10^-6 g/h.
 pub struct Sums {
@@ -30,6 +32,7 @@ fn end_of(r: Range, high: bool) -> u64
 
 // C_F by the fuel's number, in thousandths.
 fn conversion(fuel: u64) -> u64
+    requires { ⌜ Within 1 8 fuel ⌝ }
     ensures { λ r. ⌜ r ≡ C-F (fuel-of fuel) ⌝ }
 {
     match fuel {
@@ -41,13 +44,14 @@ fn conversion(fuel: u64) -> u64
         6 => 2750,
         7 => 1375,
         8 => 1913,
-        _ => 3206,
+        _ => 0,
     }
 }
 
 // C_F × SFC in 1/10,000 g/kWh; source 3 has the SFC that stands in, in g/kWh.
 fn emission(uses: Consumption, stand_in: u64, high: bool) -> u64
-    requires { ⌜ Measured (uses-of uses) × Within 100 215 «stand_in» ⌝ }
+    requires { ⌜ Measured (uses-of uses) × Fuelled uses ⌝ }
+    requires { ⌜ Within 100 215 «stand_in» ⌝ }
     ensures { λ r. ⌜ (r ≡ grams «stand_in» (uses-at (end high) (uses-of uses))) × (r ≤ 12824000) ⌝ }
 {
     if uses.source == 3 {
@@ -59,7 +63,7 @@ fn emission(uses: Consumption, stand_in: u64, high: bool) -> u64
 
 // The sums over the engines that are used.
 pub fn main_sums(engines: [Engine; 4], used: u64, high: bool) -> Sums
-    requires { ⌜ (used ≤ 4) × Each Rated (mains used engines) ⌝ }
+    requires { ⌜ (used ≤ 4) × ((i : ℕ) → i < used → Entered (getD engines i no-engine)) ⌝ }
     ensures { λ r. ⌜ r ≡ sums-of (engines-at (end high) (mains used engines)) ⌝ }
 {
     let n = used as usize;

@@ -107,9 +107,9 @@ limited : (mcr limit : ℕ) → nonzero limit && outside 100 mcr limit ≡ false
 limited mcr zero h = no-limiter
 limited mcr (suc l) h = limiter (inside 100 mcr (suc l) (not-with (nonzero (suc l)) _ h (ap not (eqb·suc-zero l))))
 
-rated : (m : ℕ) (e : Engine) → Entry m e → Rated (engine-of e)
+pub rated-entry : (m : ℕ) (e : Engine) → Entry m e → Rated (engine-of e)
 unfolding engine-of
-rated m e n =
+rated-entry m e n =
     record {
       mcr = record { least = n .sized .low .least; rising = n .mcr .rising; most = n .sized .high .most };
       limit = limited (e .mcr .low) (e .limit) (n .sized .limit);
@@ -204,7 +204,7 @@ accepted s four e =
     let p = s .particulars in
     let es = s .engines in
     let room : p .used ≤ length es = omega (arith, r .used .most) in
-    let engines = each-main Rated (p .used) es room (λ i h. rated (p .method) (getD es i no-engine) (r .entries i h)) in
+    let engines = each-main Rated (p .used) es room (λ i h. rated-entry (p .method) (getD es i no-engine) (r .entries i h)) in
     let n = count (p .used) es room in
     let u = r .used in
     let l = sum-within low (λ q h. (h .least, omega (arith, h .rising, h .most))) engines in

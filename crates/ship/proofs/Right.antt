@@ -12,7 +12,7 @@ use Rattle.exact.specs.Index.{sum-P-ME}
 use Rattle.exact.specs.Ranges.{engines-at, low}
 use Rattle.ship.specs.Record.{no-engine}
 use Rattle.ship.specs.Refusals.{first-of, or-else}
-use Rattle.ship.specs.Figures.{mains}
+use Rattle.ship.specs.Figures.{Fuelled, mains}
 use Rattle.ship.specs.Rules.{outside, between, nonzero, any-used, uses-refused, auxiliary-refused, speed-refused, crossed, range-refused, engine-crossed, capacity, apart, trial-refused, occupied, tests, refusal-of}
 use Rattle.ship.specs.Accepted.{Within, Near}
 use Rattle.ship.specs.declared.Range.{Range}
@@ -72,6 +72,7 @@ of-type k lo hi kind n e =
 pub record Metered (c : Consumption) : Type 0 where
   pub source : Within 1 3 (c .source)
   pub fuel : c .fuel ≤ 8
+  pub fuelled : Fuelled c
   pub most : (c .sfc .low ≤ 4000) × (c .sfc .high ≤ 4000)
   pub least : (c .source ≡ 3 → ⊥) → 500 ≤ c .sfc .low
   pub rising : c .sfc .low ≤ c .sfc .high
@@ -96,6 +97,7 @@ metered c e r =
     record {
       source = w;
       fuel = cases n 3 (λ h. omega (arith, none h .2)) (λ h. ends h .2 .most);
+      fuelled = λ h. ends h .2;
       most = cases n 3 (λ h. (omega (arith, none h .0), omega (arith, none h .1))) (λ h. (ends h .0 .most, ends h .1 .most));
       least = λ h. ends h .0 .least;
       rising = ltb-false (c .sfc .high) (c .sfc .low) r;

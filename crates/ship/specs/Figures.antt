@@ -1,6 +1,7 @@
 -- The figures that a record stands for.
 -- Assumes nothing.
 use Prim.Native.Nat.{ℕ, _-_}
+use mathlib.Core.Path.{_≡_}
 use mathlib.Core.List.{List, [], _∷_, map}
 use lib.ListN.{getD, take}
 use lib.Dec.{eqb}
@@ -13,6 +14,7 @@ use Rattle.ship.specs.declared.Consumption.{Consumption}
 use Rattle.ship.specs.declared.Engine.{Engine}
 use Rattle.ship.specs.declared.Trial.{Trial}
 use Rattle.ship.specs.declared.Ship.{Ship}
+use Rattle.ship.specs.Accepted.{Within}
 
 -- Types and fuels by number, from 1.
 abbrev pub kind-of : ℕ → exact.Kind
@@ -38,6 +40,10 @@ deadweight-of d = record { tonnes = d .tonnes }
 -- Sources 1 and 2 have a consumption of their own, source 3 has none.
 unfoldable pub uses-of : Consumption → exact.Consumption ranges.Range
 uses-of c = if (eqb (c .source) 3) exact.neither (exact.recorded (range-of (c .sfc)) (fuel-of (c .fuel)))
+
+-- Where there is a consumption, the number of its fuel is one of the eight.
+abbrev pub Fuelled : Consumption → Type 0
+Fuelled c = (c .source ≡ 3 → ⊥) → Within 1 8 (c .fuel)
 
 unfoldable pub engine-of : Engine → exact.Engine ranges.Range
 engine-of e = record { mcr = range-of (e .mcr); limit = e .limit; uses = uses-of (e .uses) }

@@ -1,7 +1,8 @@
 -- `plant::conversion` meets its contract.
 -- Assumes nothing.
+use Prim.Native.Nat.{_≤_}
+use native.Mathlib.Omega.{arith}
 use Rattle.exact.specs.Index.{C-F}
-use Rattle.plant.proofs.Entries.{no-fuel}
 use Rattle.plant.proofs.conversion.Statement.{statement}
 use Rattle.plant.proofs.conversion.Tie as tie
 
@@ -37,9 +38,12 @@ returns-8 : tie.Need-returns-8
 unfolding C-F
 returns-8 c = rw (c .match .keys8)
 
+-- No number from 1 to 8 is left.
 returns-9 : tie.Need-returns-9
-unfolding C-F
-returns-9 c = rw (no-fuel (c .before .args .fuel) (c .match .rest))
+returns-9 c =
+    let rest = c .match .rest in
+    let h : 5 ≤ c .before .args .fuel = omega (arith, c .before .pre .least, rest .0 .0 .0 .0) in
+    absurd (omega (arith, c .before .pre .most, rest .0 .0 .0 .1, rest .0 .0 .1, rest .0 .1, rest .1))
 
 pub conversion-spec : {M : Type 1} → statement M
 conversion-spec =

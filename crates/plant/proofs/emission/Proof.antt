@@ -16,7 +16,7 @@ product : (c : tie.After-end-of) → (c .before .conversion .result * c .end-of 
 product c =
     let start = c .before .before .before .before .before in
     rw (c .before .conversion .ensures, c .end-of .ensures)
-    (with-source (start .args .high) (start .args .stand-in) (start .pre .1) (start .args .uses) (start .pre .0) (c .before .before .before .if1 .left))
+    (with-source (start .args .high) (start .args .stand-in) (start .pre .1) (start .args .uses) (start .pre .0 .0) (c .before .before .before .if1 .left))
 
 mul-result : tie.Need-mul-result
 mul-result c = search needs
@@ -27,10 +27,10 @@ mul-result-2 c = search needs
 returns : tie.Need-returns
 returns c =
     let start = c .before .before in
-    with-neither (start .args .high) (start .args .stand-in) (start .pre .1) (start .args .uses) (start .pre .0) (c .if1 .taken)
+    with-neither (start .args .high) (start .args .stand-in) (start .pre .1) (start .args .uses) (start .pre .0 .0) (c .if1 .taken)
 
 conversion-requires : tie.Need-conversion-requires
-conversion-requires c κs = search needs
+conversion-requires c κs = c .before .before .before .pre .0 .1 (c .before .if1 .left)
 
 end-of-requires : tie.Need-end-of-requires
 end-of-requires c κs = search needs

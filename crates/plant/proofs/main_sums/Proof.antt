@@ -12,7 +12,7 @@ use Rattle.ship.specs.Record.{no-engine}
 use Rattle.ship.specs.Figures.{mains}
 use Rattle.plant.specs.Plant.{end, main-grams}
 use Rattle.plant.proofs.Entries.{Usable, usable}
-use Rattle.plant.proofs.Steps.{each-at, power-step, rated-step, grams-step}
+use Rattle.plant.proofs.Steps.{power-step, rated-step, grams-step}
 use Rattle.plant.proofs.main_sums.Statement.{statement}
 use Rattle.plant.proofs.main_sums.Tie as tie
 
@@ -32,8 +32,7 @@ entry : (c : tie.In-loop Inv-loop μ-loop) → Usable (c .before .before .args .
 entry c =
     let start = c .before .before in
     let i = c .before .loop .i in
-    let four : length (start .args .t1) ≡ 4 = search needs in
-    usable (start .args .high) (getD (start .args .t1) i no-engine) (each-at (start .args .used) i (start .args .t1) (start .pre .1) (omega arith) (omega arith))
+    usable (start .args .high) (getD (start .args .t1) i no-engine) (start .pre .1 i (omega arith))
 
 product : (c : tie.After-emission Inv-loop μ-loop) → c .before .power .result * c .emission .result ≤ 115416000000000
 product c = mul-le-mul (c .before .power .ensures .1) (c .emission .ensures .1)
