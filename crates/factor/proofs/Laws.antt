@@ -141,16 +141,18 @@ module _ (s : Particulars) (k : ℕ) where
   unfolding factorOf
   of-vehicle e = rw e
 
-  pub of-others : Within 1 7 k → (k ≡ 1 → ⊥) → (k ≡ 7 → ⊥) → one ≡ factorOf (kind-of k) s
+  pub of-others : Within 2 6 k → one ≡ factorOf (kind-of k) s
   unfolding factorOf
-  of-others =
+  of-others w =
       of-seven
-      (λ k. (k ≡ 1 → ⊥) → (k ≡ 7 → ⊥) → one ≡ factorOf (kind-of k) s)
-      (λ a b. absurd (a refl))
-      (λ a b. refl)
-      (λ a b. refl)
-      (λ a b. refl)
-      (λ a b. refl)
-      (λ a b. refl)
-      (λ a b. absurd (b refl))
+      (λ k. Within 2 6 k → one ≡ factorOf (kind-of k) s)
+      (λ h. absurd (omega (arith, h .least)))
+      (λ h. refl)
+      (λ h. refl)
+      (λ h. refl)
+      (λ h. refl)
+      (λ h. refl)
+      (λ h. absurd (omega (arith, h .most)))
       k
+      (omega arith)
+      w

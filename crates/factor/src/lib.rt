@@ -57,7 +57,8 @@ pub fn factor(s: Ship) -> Bounds
     let gross = p.gross;
     match kind {
         1 => light_cargo(deadweight, p.volume),
+        2..=6 => exactly_one(),
         7 => light_vehicles(deadweight, gross),
-        _ => exactly_one(),
+        _ => Bounds { lo: 0, hi: 0 },
     }
 }

@@ -1,23 +1,25 @@
 -- `factor::factor` meets its contract.
 -- Assumes nothing.
 use mathlib.Core.Path.{_∙_}
+use native.Mathlib.Omega.{arith}
 use borrow.Author.Needs.{needs}
 use Rattle.ship.specs.Figures.{figures}
-use Rattle.ship.proofs.Right.{right}
+use Rattle.ship.proofs.Right.{Right, right}
 use Rattle.factor.proofs.Laws.{of-bulk, of-vehicle, of-others}
 use Rattle.factor.proofs.factor.Statement.{statement}
 use Rattle.factor.proofs.factor.Tie as tie
 
+given : (c : tie.Start) → Right (c .args .s)
+given c = right (c .args .s) (c .pre)
+
 light-cargo-requires : tie.Need-light-cargo-requires
 light-cargo-requires c κs =
-    let start = c .before .before .before .before in
-    let r = right (start .args .s) (start .pre) in
+    let r = given (c .before .before .before .before) in
     (r .deadweight, record { least = r .volume .least (c .match .keys1); most = r .volume .most })
 
 light-vehicles-requires : tie.Need-light-vehicles-requires
 light-vehicles-requires c κs =
-    let start = c .before .before .before .before in
-    let r = right (start .args .s) (start .pre) in
+    let r = given (c .before .before .before .before) in
     (r .deadweight, record { least = r .gross .least (c .match .keys2); most = r .gross .most })
 
 exactly-one-requires : tie.Need-exactly-one-requires
@@ -38,10 +40,15 @@ returns-2 c =
 returns-3 : tie.Need-returns-3
 unfolding figures
 returns-3 c =
-    let start = c .before .before .before .before .before in
-    let s = start .args .s in
-    let rest = c .before .match .rest in
-    c .exactly-one .ensures ∙ of-others (figures s .ship) (s .particulars .kind) (right s (start .pre) .kind) (rest .0 .1) (rest .1)
+    let s = c .before .before .before .before .before .before .before .args .s in
+    c .exactly-one .ensures ∙ of-others (figures s .ship) (s .particulars .kind) (omega arith)
+
+-- No number from 1 to 7 is left, below the range or above it.
+returns-4 : tie.Need-returns-4
+returns-4 c = absurd (omega (arith, given (c .before .before .before .before .before) .kind))
+
+returns-5 : tie.Need-returns-5
+returns-5 c = absurd (omega (arith, given (c .before .before .before .before .before .before) .kind))
 
 pub factor-spec : {M : Type 1} → statement M
 factor-spec =
@@ -52,4 +59,6 @@ factor-spec =
     exactly-one-requires
     returns
     returns-2
-    returns-3)
+    returns-3
+    returns-4
+    returns-5)
