@@ -44,17 +44,17 @@ module _ (top : Bool) {r : Figures Range} (a : Accepted r) where
       go true = a .power-high
       go false = a .power-low
 
-  fitting : (m : Method Range) (C : ℕ) → Sailed m (r .ship .kind) (r .ship .deadweight) (sum-P-ME (engines-at low (r .engines))) → Settled m (r .engines) → hundredths (r .ship .kind) (r .ship .deadweight) ≡ C
-      → Fitting (method-at (end (not top)) m) (sum-P-ME (engines-at (end top) (r .engines))) C
+  fitting : (m : Method Range) → Sailed m (r .ship .kind) (r .ship .deadweight) (sum-P-ME (engines-at low (r .engines))) → Settled m (r .engines)
+      → Fitting (method-at (end (not top)) m) (r .ship .kind) (r .ship .deadweight) (sum-P-ME (engines-at (end top) (r .engines)))
   unfolding method-at Settled
-  fitting (declared v) C h s e = end-within (not top) h
-  fitting (trial v kW) C h s e = rw (← same-power top (r .engines) (s .1)) (end-within (not top) (h .speed), h .power, h .near)
-  fitting (design-trial v kW tested) C h s e =
-      rw (← same-power top (r .engines) (s .1), ← e) (end-within (not top) (h .0 .speed), h .0 .power, h .0 .near, h .1)
-  fitting statistical C h s e = tt
+  fitting (declared v) h s = end-within (not top) h
+  fitting (trial v kW) h s = rw (← same-power top (r .engines) (s .1)) (end-within (not top) (h .speed), h .power, h .near)
+  fitting (design-trial v kW tested) h s =
+      rw (← same-power top (r .engines) (s .1)) (end-within (not top) (h .0 .speed), h .0 .power, h .0 .near, h .1, h .2)
+  fitting statistical h s = tt
 
   pub admitted : Admitted (method-at (end (not top)) (r .method)) (r .ship .kind) (r .ship .deadweight) (sum-P-ME (engines-at (end top) (r .engines)))
-  admitted = record { deadweight = a .deadweight; power = power-within; method = fitting (r .method) _ (a .method) (a .settled) refl }
+  admitted = record { deadweight = a .deadweight; power = power-within; method = fitting (r .method) (a .method) (a .settled) }
 
   -- ── The parts ─────────────────────────────────────────────────────────────────────────────
 

@@ -17,7 +17,7 @@ use Rattle.power.specs.declared.Bounds.{Bounds}
 use Rattle.power.specs.Numbers.{unit}
 use Rattle.power.specs.Power.{BoundsPower, Raisable, powerOf, Power}
 use Rattle.power.proofs.Laws.{in-words, rescaled, inverted, capped, power-law}
-use Rattle.ship.specs.Accepted.{Within, Near, hundredths}
+use Rattle.ship.specs.Accepted.{Within, Near, By-design-draught, hundredths}
 use Rattle.plant.proofs.Values.{capacity-exact}
 use Rattle.plant.proofs.Growth.{capacity-within}
 use Rattle.speed.specs.declared.Split.{Split}
@@ -84,15 +84,15 @@ either true h k = h
 either false h k = k
 
 -- k is one of four numbers.
-pub k-within : (kind : Kind) (dwt : Deadweight) → Within 90 100 (rules.k kind dwt)
+pub k-within : (kind : Kind) (dwt : Deadweight) → By-design-draught kind → Within 90 100 (rules.k kind dwt)
 unfolding rules.k
-k-within bulk dwt = either (leb (dwt .tonnes) 200000) (omega arith) (omega arith)
-k-within tanker dwt = either (leb (dwt .tonnes) 100000) (omega arith) (omega arith)
-k-within container dwt = either (leb (dwt .tonnes) 120000) (omega arith) (omega arith)
-k-within gas dwt = omega arith
-k-within refrigerated dwt = omega arith
-k-within combination dwt = omega arith
-k-within vehicle dwt = omega arith
+k-within bulk dwt d = either (leb (dwt .tonnes) 200000) (omega arith) (omega arith)
+k-within tanker dwt d = either (leb (dwt .tonnes) 100000) (omega arith) (omega arith)
+k-within container dwt d = either (leb (dwt .tonnes) 120000) (omega arith) (omega arith)
+k-within gas dwt d = absurd d
+k-within refrigerated dwt d = absurd d
+k-within combination dwt d = absurd d
+k-within vehicle dwt d = absurd d
 
 -- ── The trial's deadweight over Capacity ────────────────────────────────────────────────────
 
@@ -299,7 +299,7 @@ module _ {T : Formula} {n v a b : ℕ} {g : Bounds} {p : Split} (e : (s : Side) 
           record { cross = rw (suc-pred-eq-of-pos z, suc-pred-eq-of-pos z') (omega arith) }
 
 module _ {v kW P : ℕ} (tested : Deadweight) (kind : Kind) (dwt : Deadweight) (w : Within 500 6000 v) (pos : 1 ≤ kW) (top : P ≤ 36000000) (near : Near (100 * kW) P)
-    (heavy : Within 100 600000 (dwt .tonnes)) (loaded : Near (100 * tested .tonnes) (hundredths kind dwt)) where
+    (heavy : Within 100 600000 (dwt .tonnes)) (loaded : Near (100 * tested .tonnes) (hundredths kind dwt)) (draught : By-design-draught kind) where
   pub fives : Fives (tested .tonnes * 100) (hundredths kind dwt)
   fives =
       let c = capacity-within kind dwt heavy in
@@ -312,7 +312,7 @@ module _ {v kW P : ℕ} (tested : Deadweight) (kind : Kind) (dwt : Deadweight) (
       }
 
   root : KRoot (rules.k kind dwt) (kRootOf (rules.k kind dwt))
-  root = k-root (rules.k kind dwt) (k-within kind dwt)
+  root = k-root (rules.k kind dwt) (k-within kind dwt draught)
 
   pub design-parts : DesignParts v (kRootOf (rules.k kind dwt)) (tested .tonnes * 100) (hundredths kind dwt) (partsOf v (kRootOf (rules.k kind dwt)) (tested .tonnes * 100) (hundredths kind dwt))
   design-parts = parts w (root .size) fives

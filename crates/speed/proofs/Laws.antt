@@ -32,5 +32,5 @@ unfolding V-ref speedOf
 speed-law (declared v) kind dwt P a = declared-speed (a .method)
 speed-law (trial v kW) kind dwt P a = trial-speed kind dwt (a .method .0) (a .method .1 .least) (a .power .most) (a .method .2)
 speed-law (design-trial v kW tested) kind dwt P a =
-    design-speed tested kind dwt (a .method .0) (a .method .1 .least) (a .power .most) (a .method .2) (a .deadweight) (a .method .3)
+    design-speed tested kind dwt (a .method .0) (a .method .1 .least) (a .power .most) (a .method .2) (a .deadweight) (a .method .3) (a .method .4)
 speed-law statistical kind dwt P a = statistical-speed kind dwt P (a .deadweight) (a .power)

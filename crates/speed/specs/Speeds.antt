@@ -13,7 +13,7 @@ use Rattle.number.specs.Division.{ceilOf}
 use Rattle.number.specs.Ratio.{cubeRootOf}
 use Rattle.power.specs.declared.Bounds.{Bounds}
 use Rattle.power.specs.Power.{powerOf}
-use Rattle.ship.specs.Accepted.{Within, Near, hundredths}
+use Rattle.ship.specs.Accepted.{Within, Near, By-design-draught, hundredths}
 use Rattle.ship.specs.Figures.{deadweight-of}
 use Rattle.ship.specs.declared.Trial as record-trial
 use Rattle.speed.specs.declared.Row.{Row}
@@ -129,16 +129,17 @@ speedOf (design-trial v kW tested) kind dwt P = designOf v kW tested kind dwt P
 speedOf statistical kind dwt P = statisticalOf kind dwt P
 
 -- What the rules leave of each method.
-abbrev pub Fitting : Method ℕ → (P C : ℕ) → Type 0
-Fitting (declared v) P C = Within 500 6000 v
-Fitting (trial v kW) P C = Within 500 6000 v × Within 1 600000 kW × Near (100 * kW) P
-Fitting (design-trial v kW tested) P C = Within 500 6000 v × Within 1 600000 kW × Near (100 * kW) P × Near (100 * tested .tonnes) C
-Fitting statistical P C = Unit {0}
+abbrev pub Fitting : Method ℕ → Kind → Deadweight → ℕ → Type 0
+Fitting (declared v) kind dwt P = Within 500 6000 v
+Fitting (trial v kW) kind dwt P = Within 500 6000 v × Within 1 600000 kW × Near (100 * kW) P
+Fitting (design-trial v kW tested) kind dwt P =
+    Within 500 6000 v × Within 1 600000 kW × Near (100 * kW) P × Near (100 * tested .tonnes) (hundredths kind dwt) × By-design-draught kind
+Fitting statistical kind dwt P = Unit {0}
 
 pub record Admitted (m : Method ℕ) (kind : Kind) (dwt : Deadweight) (P : ℕ) : Type 0 where
   pub deadweight : Within 100 600000 (dwt .tonnes)
   pub power : Within 7500 36000000 P
-  pub method : Fitting m P (hundredths kind dwt)
+  pub method : Fitting m kind dwt P
 
 -- What may be used of it: the two ends enclose the formula, and differ by at most a millionth of the upper and 2.
 pub record Speed (e : Formula) (r : Bounds) : Type 0 where

@@ -8,7 +8,7 @@ ghost use Prim.Native.Nat.{_+_, _*_, _/_, _^_, _≤_, _<_};
 ghost use Rattle.exact.specs.Index.{k, sized};
 ghost use Rattle.number.specs.Division.{ceilOf};
 ghost use Rattle.number.specs.Ratio.{Moderate};
-ghost use Rattle.ship.specs.Accepted.{Within, Near, hundredths};
+ghost use Rattle.ship.specs.Accepted.{Within, Near, By-design-draught, hundredths};
 ghost use Rattle.ship.specs.Figures.{kind-of, deadweight-of};
 ghost use Rattle.speed.specs.Speeds.{Parted, Factor, Fives, RowOf, speedFrom, averageOf, lessMarginOf, statisticalOf, trialOf, kRootOf, timesOf, upOf, downOf, partsOf, designOf, one-method, Admitted, speedOf};
 
@@ -76,7 +76,8 @@ fn row_of(kind: u64) -> Row
         4 => coefficients(32395, 18294, 5042, 103046),
         5 => coefficients(10600, 31518, 272, 138634),
         6 => coefficients(81391, 5378, 228536, 55820),
-        _ => coefficients(166773, 1802, 2627693, 39973),
+        7 => coefficients(166773, 1802, 2627693, 39973),
+        _ => coefficients(0, 0, 0, 0),
     }
 }
 
@@ -150,17 +151,26 @@ fn trial(v: u64, kw: u64, power: u64) -> Bounds
     speed_from(Split { base, over }, power, kw * 100)
 }
 
-// k of method 3, in hundredths.
+// k of method 3, in hundredths, of a type that has the method.
 fn k_of(kind: u64, deadweight: Deadweight) -> u64
-    requires { ⌜ Within 1 7 kind ⌝ }
+    requires { ⌜ Within 1 7 kind × By-design-draught (kind-of kind) ⌝ }
     ensures { λ r. ⌜ r ≡ k (kind-of kind) (deadweight-of deadweight) ⌝ }
 {
     let t = deadweight.tonnes;
     match kind {
-        1 => if t <= 200000 { 97 } else { 100 },
-        3 => if t <= 100000 { 97 } else { 100 },
-        4 => if t <= 120000 { 95 } else { 93 },
-        _ => 100,
+        1 => match t {
+            0..=200000 => 97,
+            _ => 100,
+        },
+        3 => match t {
+            0..=100000 => 97,
+            _ => 100,
+        },
+        4 => match t {
+            0..=120000 => 95,
+            _ => 93,
+        },
+        _ => 0,
     }
 }
 
@@ -228,7 +238,7 @@ fn loaded(v: u64, g: Bounds, a: u64, b: u64) -> Split
 // Method 3, with the trial's deadweight.
 fn design(v: u64, trial: Trial, kind: u64, deadweight: Deadweight, power: u64) -> Bounds
     requires { ⌜ Within 1 7 kind × Within 500 6000 v × Within 1 600000 (trial .power) × Near (100 * trial .power) power ⌝ }
-    requires { ⌜ (power ≤ 36000000) × Within 100 600000 (deadweight .tonnes) × Near (100 * trial .deadweight .tonnes) (hundredths (kind-of kind) (deadweight-of deadweight)) ⌝ }
+    requires { ⌜ (power ≤ 36000000) × Within 100 600000 (deadweight .tonnes) × Near (100 * trial .deadweight .tonnes) (hundredths (kind-of kind) (deadweight-of deadweight)) × By-design-draught (kind-of kind) ⌝ }
     ensures { λ r. ⌜ r ≡ designOf v (trial .power) (deadweight-of (trial .deadweight)) (kind-of kind) (deadweight-of deadweight) power ⌝ }
 {
     let g = root_of_k(k_of(kind, deadweight));
@@ -252,6 +262,7 @@ pub fn speed(p: Particulars, v: u64, power: u64) -> Bounds
         },
         2 => trial(v, trial_run.power, power),
         3 => design(v, trial_run, p.kind, deadweight, power),
-        _ => statistical(p.kind, deadweight, power),
+        4 => statistical(p.kind, deadweight, power),
+        _ => Bounds { lo: 0, hi: 0 },
     }
 }

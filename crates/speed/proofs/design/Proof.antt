@@ -17,7 +17,7 @@ k-of-requires : tie.Need-k-of-requires
 k-of-requires c κs = search needs
 
 root-of-k-requires : tie.Need-root-of-k-requires
-root-of-k-requires c κs = rw (c .k-of .ensures) (k-within (kind-of (c .before .args .kind)) (deadweight-of (c .before .args .deadweight)))
+root-of-k-requires c κs = rw (c .k-of .ensures) (k-within (kind-of (c .before .args .kind)) (deadweight-of (c .before .args .deadweight)) (c .before .pre .1 .3))
 
 capacity-of-requires : tie.Need-capacity-of-requires
 capacity-of-requires c κs = search needs
@@ -25,7 +25,7 @@ capacity-of-requires c κs = search needs
 near : (c : tie.After-capacity-of) → Fives (c .before .before .before .args .trial .deadweight .tonnes * 100) (hundredths (kind-of (c .before .before .before .args .kind)) (deadweight-of (c .before .before .before .args .deadweight)))
 near c =
     let s = c .before .before .before in
-    fives (deadweight-of (s .args .trial .deadweight)) (kind-of (s .args .kind)) (deadweight-of (s .args .deadweight)) (s .pre .0 .1) (s .pre .0 .2 .least) (s .pre .1 .0) (s .pre .0 .3) (s .pre .1 .1) (s .pre .1 .2)
+    fives (deadweight-of (s .args .trial .deadweight)) (kind-of (s .args .kind)) (deadweight-of (s .args .deadweight)) (s .pre .0 .1) (s .pre .0 .2 .least) (s .pre .1 .0) (s .pre .0 .3) (s .pre .1 .1) (s .pre .1 .2) (s .pre .1 .3)
 
 capacity-is : (c : tie.After-capacity-of) → c .capacity-of .result ≡ hundredths (kind-of (c .before .before .before .args .kind)) (deadweight-of (c .before .before .before .args .deadweight))
 capacity-is c =
@@ -40,7 +40,7 @@ loaded-requires c κs =
     let at = c .before in
     let s = at .before .before .before in (
       s .pre .0 .1,
-      rw (at .before .root-of-k .ensures, at .before .before .k-of .ensures) (k-root _ (k-within (kind-of (s .args .kind)) (deadweight-of (s .args .deadweight))) .size),
+      rw (at .before .root-of-k .ensures, at .before .before .k-of .ensures) (k-root _ (k-within (kind-of (s .args .kind)) (deadweight-of (s .args .deadweight)) (s .pre .1 .3)) .size),
       rw (capacity-is at) (near at),
     )
 
@@ -52,7 +52,7 @@ speed-from-requires c κs =
     let at = c .before .before .before in
     let s = at .before .before .before in (
       rw (c .before .loaded .ensures, at .before .root-of-k .ensures, at .before .before .k-of .ensures, capacity-is at)
-          (design-parts (deadweight-of (s .args .trial .deadweight)) (kind-of (s .args .kind)) (deadweight-of (s .args .deadweight)) (s .pre .0 .1) (s .pre .0 .2 .least) (s .pre .1 .0) (s .pre .0 .3) (s .pre .1 .1) (s .pre .1 .2) .parted),
+          (design-parts (deadweight-of (s .args .trial .deadweight)) (kind-of (s .args .kind)) (deadweight-of (s .args .deadweight)) (s .pre .0 .1) (s .pre .0 .2 .least) (s .pre .1 .0) (s .pre .0 .3) (s .pre .1 .1) (s .pre .1 .2) (s .pre .1 .3) .parted),
       trial-moderate (s .pre .0 .2 .least) (s .pre .1 .0) (s .pre .0 .3),
     )
 

@@ -1,5 +1,5 @@
 -- `speed::row_of` meets its contract. Assumes nothing.
-use Prim.Native.Nat.{ℕ}
+use Prim.Native.Nat.{ℕ, _≤_}
 use mathlib.Core.Path.{_≡_, refl, _∙_}
 use native.Mathlib.Omega.{arith}
 use borrow.Author.Needs.{needs}
@@ -36,6 +36,9 @@ coefficients-requires-6 c κs = search needs
 coefficients-requires-7 : tie.Need-coefficients-requires-7
 coefficients-requires-7 c κs = search needs
 
+coefficients-requires-8 : tie.Need-coefficients-requires-8
+coefficients-requires-8 c κs = search needs
+
 returns : tie.Need-returns
 unfolding row
 returns c = filled (c .coefficients .ensures) (rw (c .before .match .keys1) (refl, refl, refl, refl))
@@ -62,9 +65,15 @@ returns-6 c = filled (c .coefficients6 .ensures) (rw (c .before .match .keys6) (
 
 returns-7 : tie.Need-returns-7
 unfolding row
-returns-7 c =
-    let e : c .before .before .args .kind ≡ 7 = omega (arith, c .before .before .pre .least, c .before .before .pre .most) in
-    filled (c .coefficients7 .ensures) (rw e (refl, refl, refl, refl))
+returns-7 c = filled (c .coefficients7 .ensures) (rw (c .before .match .keys7) (refl, refl, refl, refl))
+
+-- No number from 1 to 7 is left.
+returns-8 : tie.Need-returns-8
+returns-8 c =
+    let start = c .before .before in
+    let rest = c .before .match .rest in
+    let h : 4 ≤ start .args .kind = omega (arith, start .pre .least, rest .0 .0 .0 .0) in
+    absurd (omega (arith, start .pre .most, rest .0 .0 .0 .1, rest .0 .0 .1, rest .0 .1, rest .1))
 
 pub row-of-spec : {M : Type 1} → statement M
-row-of-spec = tie.close (tie.spec coefficients-requires coefficients-requires-2 coefficients-requires-3 coefficients-requires-4 coefficients-requires-5 coefficients-requires-6 coefficients-requires-7 returns returns-2 returns-3 returns-4 returns-5 returns-6 returns-7)
+row-of-spec = tie.close (tie.spec coefficients-requires coefficients-requires-2 coefficients-requires-3 coefficients-requires-4 coefficients-requires-5 coefficients-requires-6 coefficients-requires-7 coefficients-requires-8 returns returns-2 returns-3 returns-4 returns-5 returns-6 returns-7 returns-8)

@@ -33,7 +33,7 @@ design-requires : tie.Need-design-requires
 design-requires c κs =
     let s = c .before .before .before in
     let a = asked s 3 (c .match .keys3) in
-    ((s .pre .0, a .method .0, a .method .1, a .method .2), (a .power .most, a .deadweight, a .method .3))
+    ((s .pre .0, a .method .0, a .method .1, a .method .2), (a .power .most, a .deadweight, a .method .3, a .method .4))
 
 statistical-requires : tie.Need-statistical-requires
 statistical-requires c κs = search needs
@@ -52,9 +52,11 @@ returns-3 c = answered (c .before .before .before .before) 3 (c .before .match .
 
 returns-4 : tie.Need-returns-4
 unfolding speedOf
-returns-4 c =
-    let e : c .before .before .before .before .args .p .method ≡ 4 = omega (arith, c .before .before .before .before .pre .1 .least, c .before .before .before .before .pre .1 .most) in
-    answered (c .before .before .before .before) 4 e _ (c .statistical .ensures)
+returns-4 c = answered (c .before .before .before .before) 4 (c .before .match .keys4) _ (c .statistical .ensures)
+
+-- No number from 1 to 4 is left.
+returns-5 : tie.Need-returns-5
+returns-5 c = absurd (omega (arith, c .before .before .before .pre .1, c .match .rest))
 
 pub speed-spec : {M : Type 1} → statement M
-speed-spec = tie.close (tie.spec mul-t8 mul-t9 trial-requires design-requires statistical-requires returns returns-2 returns-3 returns-4)
+speed-spec = tie.close (tie.spec mul-t8 mul-t9 trial-requires design-requires statistical-requires returns returns-2 returns-3 returns-4 returns-5)
