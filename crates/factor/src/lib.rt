@@ -20,7 +20,7 @@ fn exactly_one() -> Bounds
 }
 
 // A bulk carrier's: R to the power -0.15, where R = deadweight / volume is below 0.55.
-pub fn light_cargo(deadweight: Deadweight, volume: u64) -> Bounds
+fn light_cargo(deadweight: Deadweight, volume: u64) -> Bounds
     requires { ⌜ Within 100 600000 (deadweight .tonnes) × Within 100 1000000 volume ⌝ }
     ensures { λ r. ⌜ r ≡ cargoOf (deadweight-of deadweight) volume ⌝ }
 {
@@ -33,7 +33,7 @@ pub fn light_cargo(deadweight: Deadweight, volume: u64) -> Bounds
 }
 
 // A vehicle carrier's: (R / 0.35) to the power -0.8, where R = deadweight / gross tonnage is below 0.35.
-pub fn light_vehicles(deadweight: Deadweight, gross: GrossTonnage) -> Bounds
+fn light_vehicles(deadweight: Deadweight, gross: GrossTonnage) -> Bounds
     requires { ⌜ Within 100 600000 (deadweight .tonnes) × Within 100 400000 (gross .gt) ⌝ }
     ensures { λ r. ⌜ r ≡ vehiclesOf (deadweight-of deadweight) (record { gt = gross .gt }) ⌝ }
 {
@@ -46,7 +46,7 @@ pub fn light_vehicles(deadweight: Deadweight, gross: GrossTonnage) -> Bounds
     }
 }
 
-// f_c of a record.
+// f_c of a record that rules 4 to 16 leave.
 pub fn factor(s: Ship) -> Bounds
     requires { ⌜ refusal-of s ≡ refusal.None ⌝ }
     ensures { λ r. ⌜ r ≡ factorOf (figures s .ship .kind) (figures s .ship) ⌝ }

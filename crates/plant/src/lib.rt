@@ -17,7 +17,7 @@ ghost use Rattle.ship.specs.declared.Refusal.the-variants as refusal;
 ghost use Rattle.plant.specs.Plant.{end, at-end, Entered, grams, auxiliary-power, N, ice-factor, sums-of};
 
 // Over the main engines: P_ME in 1/100 kW, MCR in kW, P_ME × C_F × SFC in 10^-6 g/h.
-pub struct Sums {
+struct Sums {
     pub power: u64,
     pub rated: u64,
     pub grams: u64,
@@ -62,7 +62,7 @@ fn emission(uses: Consumption, stand_in: u64, high: bool) -> u64
 }
 
 // The sums over the engines that are used.
-pub fn main_sums(engines: [Engine; 4], used: u64, high: bool) -> Sums
+fn main_sums(engines: [Engine; 4], used: u64, high: bool) -> Sums
     requires { ⌜ (used ≤ 4) × ((i : ℕ) → i < used → Entered (getD engines i no-engine)) ⌝ }
     ensures { λ r. ⌜ r ≡ sums-of (engines-at (end high) (mains used engines)) ⌝ }
 {
@@ -104,7 +104,7 @@ fn auxiliary_power(method: u64, table: u64, rated: u64) -> u64
     }
 }
 
-// The sum of P_ME of a record, in 1/100 kW.
+// The sum of P_ME of a record that rules 4 to 16 leave, in 1/100 kW.
 pub fn power(s: Ship, high: bool) -> u64
     requires { ⌜ refusal-of s ≡ refusal.None ⌝ }
     ensures { λ r. ⌜ (r ≡ sum-P-ME (engines-at (end high) (figures s .engines))) × Within 7500 36000000 r ⌝ }
@@ -113,7 +113,7 @@ pub fn power(s: Ship, high: bool) -> u64
     main_sums(engines, s.particulars.used, high).power
 }
 
-// The emissions of a record, in 10^-7 g/h.
+// The emissions of a record that rules 4 to 16 leave, in 10^-7 g/h.
 pub fn emissions(s: Ship, high: bool) -> u64
     requires { ⌜ refusal-of s ≡ refusal.None ⌝ }
     ensures { λ r. ⌜ (r ≡ N (at-end high (figures s))) × Within 1 6000000000000000 r ⌝ }
@@ -126,7 +126,7 @@ pub fn emissions(s: Ship, high: bool) -> u64
     10 * main.grams + auxiliary * emission(uses, 215, high)
 }
 
-// Capacity of a record, in 1/100 t.
+// Capacity of a record that rules 4 to 16 leave, in 1/100 t.
 pub fn capacity(s: Ship) -> u64
     requires { ⌜ refusal-of s ≡ refusal.None ⌝ }
     ensures { λ r. ⌜ (r ≡ hundredths (figures s .ship .kind) (figures s .ship .deadweight)) × Within 7000 60000000 r ⌝ }

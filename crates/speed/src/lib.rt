@@ -13,7 +13,7 @@ ghost use Rattle.ship.specs.Figures.{kind-of, deadweight-of};
 ghost use Rattle.speed.specs.Speeds.{Parted, Factor, Fives, RowOf, speedFrom, averageOf, lessMarginOf, statisticalOf, trialOf, kRootOf, timesOf, upOf, downOf, partsOf, designOf, one-method, Admitted, speedOf};
 
 // A row of method 4's table.
-pub struct Row {
+struct Row {
     pub a: u64,
     pub c: u64,
     pub d: u64,
@@ -21,7 +21,7 @@ pub struct Row {
 }
 
 // A speed in 10^-9 knot, and what it is still to be divided by, in 2^-30.
-pub struct Split {
+struct Split {
     pub base: Bounds,
     pub over: Bounds,
 }
@@ -247,7 +247,7 @@ fn design(v: u64, trial: Trial, kind: u64, deadweight: Deadweight, power: u64) -
     speed_from(parts, power, trial.power * 100)
 }
 
-// V_ref of a record with the speed v, in 1/100 knot, and the sum of P_ME, in 1/100 kW.
+// V_ref of a record with the speed v, in 1/100 knot, and the sum of P_ME, in 1/100 kW. What it asks, rules 5, 6, 9, 13 and 15 leave.
 pub fn speed(p: Particulars, v: u64, power: u64) -> Bounds
     requires { ⌜ Within 1 7 (p .kind) × Within 1 4 (p .method) × Admitted (one-method (p .method) v (p .trial)) (kind-of (p .kind)) (deadweight-of (p .deadweight)) power ⌝ }
     ensures { λ r. ⌜ r ≡ speedOf (one-method (p .method) v (p .trial)) (kind-of (p .kind)) (deadweight-of (p .deadweight)) power ⌝ }
