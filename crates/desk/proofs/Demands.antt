@@ -112,14 +112,6 @@ file-kept f n s h = rw (ne-eqb (number-of (write-refusal f n s)) 0 (λ e. h (non
 
 -- ── An accepted record ──────────────────────────────────────────────────────────────────────
 
--- Every value of the record's type with no refusal is such a record, and so is what is read from an accepted block.
-pub value-taken : (s : Ship) (vs : List Val) → shadow (row the-type .own s vs) → refusal-of s ≡ None → Taken s
-value-taken s vs g e = record { entries = four s vs g; none = e }
-
-pub block-taken : (b : List ℕ) → read-refusal b ≡ None → Taken (read-of b .ship)
-unfolding read-of ship-in ship-from
-block-taken b e = record { entries = rw e; none = block-accepted b e }
-
 ranges-kept : {s : Ship} → Taken s → Accepted (figures s)
 ranges-kept {s} t = accepted s (t .entries) (t .none)
 
@@ -201,6 +193,10 @@ pub records-inside : {s s' : Ship} → Narrower-record s s' → Inside (figures 
 records-inside n =
     (ship-inside low high low-inside high-inside (narrowing-of.narrowed n), ship-inside high low high-inside low-inside (narrowing-of.narrowed n))
 
+-- There are such records: those of the most and of the least favourable ship.
+pub ends-narrower : {s : Ship} (top : Bool) → Taken s → Narrower-record s (record-end top s)
+ends-narrower {s} top t = narrowing-of.ends-narrower s (t .entries) (t .none) top
+
 -- The lower bound is the one of the most favourable ship, the upper bound of the least favourable.
 pub lower-of-most : {s s' : Ship} → Taken s → Taken s' → Stands-for (figures s') (most-favourable (figures s)) → lower s' ≡ lower s
 lower-of-most t t' one = lower-is t' ∙ ap lower-of (stands-most one) ∙ sym (lower-is t)
@@ -220,3 +216,13 @@ pub narrowing : {s s' : Ship} → Taken s → Taken s' → Narrowed (figures s) 
 narrowing t t' n =
     rw (lower-is t, lower-is t', upper-is t, upper-is t')
     (law.narrowed-lower (ranges-kept t) (ranges-kept t') n, law.narrowed-upper (ranges-kept t) (ranges-kept t') n)
+
+-- ── The records that demands 2 and 3 speak of ───────────────────────────────────────────────
+
+-- Every value of the record's type with no refusal, and what is read from an accepted block.
+pub value-taken : (s : Ship) (vs : List Val) → shadow (row the-type .own s vs) → refusal-of s ≡ None → Taken s
+value-taken s vs g e = record { entries = four s vs g; none = e }
+
+pub block-taken : (b : List ℕ) → read-refusal b ≡ None → Taken (read-of b .ship)
+unfolding read-of ship-in ship-from
+block-taken b e = record { entries = rw e; none = block-accepted b e }

@@ -1,22 +1,28 @@
 -- A record with narrower ranges has narrowed figures, so that demand 3 speaks of every such record.
 -- Assumes nothing.
-use Prim.Native.Nat.{ℕ, zero, suc, _-_}
-use mathlib.Core.Path.{_≡_, sym}
-use mathlib.Core.Bool.{Bool, true, false}
-use mathlib.Core.List.{List, [], _∷_}
-use lib.Dec.{eqb}
-use lib.ListN.{getD}
+use Prim.Native.Nat.{ℕ, zero, suc, _-_, _≤_, _<_}
+use mathlib.Core.Path.{_≡_, refl}
+use mathlib.Core.Bool.{Bool, true, false, not}
+use mathlib.Core.List.{List, [], _∷_, map}
+use native.Mathlib.Omega.{arith}
+use borrow.Author.Tests.{ltb-true, ltb-false}
+use lib.Dec.{eqb, ltb}
+use lib.ListN.{length, getD}
 use Rattle.exact.specs.Index.{if}
 use Rattle.exact.specs.Ship.{recorded, neither, Method, declared, trial, design-trial, statistical}
 use Rattle.exact.specs.Ranges as ranges
 use Rattle.exact.specs.Ranges.{narrows, Narrowed}
 use Rattle.ship.specs.Figures.{fuel-of, range-of, deadweight-of, uses-of, engine-of, mains, method-of, figures}
-use Rattle.ship.specs.Ends.{Narrower, Narrower-uses, Narrower-engines, no-more, one-more, Narrower-record}
+use Rattle.ship.specs.Record.{no-engine}
+use Rattle.ship.specs.Ends.{one-end, uses-end, engine-end, record-end, Narrower, Narrower-uses, Narrower-engines, no-more, one-more, Narrower-record}
+use Rattle.ship.specs.Rules.{refusal-of}
+use Rattle.ship.specs.declared.Refusal.the-variants as refusal
 use Rattle.ship.specs.declared.Range.{Range}
 use Rattle.ship.specs.declared.Consumption.{Consumption}
 use Rattle.ship.specs.declared.Engine.{Engine}
 use Rattle.ship.specs.declared.Trial.{Trial}
 use Rattle.ship.specs.declared.Ship.{Ship}
+use Rattle.ship.proofs.Right.{right}
 
 range : {r r' : Range} → Narrower r r' → narrows (range-of r) (range-of r')
 range h = (h .raised, h .rising, h .lowered)
@@ -54,3 +60,39 @@ unfolding figures
 narrowed {s} h =
     rw (h .particulars)
     (ranges.alike (engines (s .particulars .used) (h .engines)) (uses (h .auxiliary)) (speed (s .particulars .method) (s .particulars .trial) (h .speed)))
+
+-- ── The most and the least favourable record lie within the ranges ──────────────────────────
+
+pub record Rising (e : Engine) : Type 0 where
+  pub mcr : e .mcr .low ≤ e .mcr .high
+  pub sfc : e .uses .sfc .low ≤ e .uses .sfc .high
+
+range-end : (top : Bool) {r : Range} → r .low ≤ r .high → Narrower r (one-end top r)
+range-end true h = omega arith
+range-end false h = omega arith
+
+uses-narrower : (top : Bool) {c : Consumption} → c .sfc .low ≤ c .sfc .high → Narrower-uses c (uses-end top c)
+uses-narrower top h = record { sfc = range-end top h; fuel = refl; source = refl }
+
+engines-narrower : (top : Bool) (es : List Engine) → ((i : ℕ) → i < length es → Rising (getD es i no-engine)) → Narrower-engines es (map (engine-end top) es)
+engines-narrower top [] h = no-more
+engines-narrower top (e ∷ es) h =
+    let r = h 0 (omega arith) in
+    one-more (range-end top (r .mcr)) refl (uses-narrower top (r .sfc)) (engines-narrower top es (λ i k. h (suc i) (omega arith)))
+
+module _ (s : Ship) (four : length (s .engines) ≡ 4) (none : refusal-of s ≡ refusal.None) where
+  entry-rises : (i : ℕ) → i < length (s .engines) → Rising (getD (s .engines) i no-engine)
+  entry-rises i h = go (ltb i (s .particulars .used)) refl
+    where
+      go : (b : Bool) → ltb i (s .particulars .used) ≡ b → Rising (getD (s .engines) i no-engine)
+      go true e = let k = right s none .entries i (ltb-true i (s .particulars .used) e) in record { mcr = k .mcr .rising; sfc = k .uses .rising }
+      go false e = rw (right s none .others i (omega arith) (ltb-false i (s .particulars .used) e)) (omega arith)
+
+  pub ends-narrower : (top : Bool) → Narrower-record s (record-end top s)
+  ends-narrower top =
+      record {
+        particulars = refl;
+        speed = range-end (not top) (right s none .ends .rising);
+        auxiliary = uses-narrower top (right s none .auxiliary-uses .rising);
+        engines = engines-narrower top (s .engines) entry-rises;
+      }
