@@ -1,5 +1,5 @@
 #!/usr/bin/env python3
-"""Cases for the programs `files` and `fleet`, from document 01 alone: the block's table, the table of refusals, the
+"""Cases for the programs `files` and `fleet`, from the rules alone (docs/RULES.md): the block's table, the table of refusals, the
 writer, and the whole output that it states for `fleet`.
 
     tests/blocks.py            writes stdin and stdout of the programs

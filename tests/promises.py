@@ -1,5 +1,5 @@
 #!/usr/bin/env python3
-"""Every name that docs/PROMISES.md and docs/LAST-DIGITS.md cite is declared in crates/, and every file and must-fail edit that they cite is there.
+"""Every name that the rules, the promises and the last digits in docs/ cite is declared in crates/, and every file and must-fail edit that they cite is there.
    tests/promises.py --check"""
 import glob, os, re, sys
 
@@ -26,9 +26,8 @@ def is_there(crate, name):
 
 
 def missing(text, names):
-    rows = [line for line in text.split("\n") if line.startswith("|")]
     gone = []
-    for row in rows:
+    for row in text.split("\n"):
         for cited in re.findall(r"`([^`]+)`", row):
             for name in (part for part in re.split(r"::|\.", cited) if NAME.match(part)):
                 if name not in names:
@@ -43,7 +42,7 @@ def main():
     names = declared()
     if missing("| x | `no-such-law`, exact/Rules `P-ME-limited`, exact/no_such_edit |", names) != ["no-such-law", "exact/no_such_edit"]:
         sys.exit("promises: a name that isn't there went unseen")
-    for document in ("PROMISES", "LAST-DIGITS"):
+    for document in ("RULES", "PROMISES", "LAST-DIGITS"):
         gone = missing(open(f"{ROOT}/docs/{document}.md", encoding="utf-8").read(), names)
         if gone:
             sys.exit(f"promises: docs/{document}.md cites what isn't there: {', '.join(gone)}")

@@ -47,7 +47,7 @@ use mathlib.Core.Bool.{Bool, true, false}
 
 -- ── Demand 1: every input has exactly one answer, by the first rule broken ──────────────────
 
--- A record's refusal is that of the first of its tests, in document 01's order, that holds; or none.
+-- A record's refusal is that of the first of its tests, in the order of docs/RULES.md, that holds; or none.
 pub record-first : (s : Ship) → First (tests s) None (refusal-of s)
 unfolding refusal-of
 record-first s = first-is (tests s) None
