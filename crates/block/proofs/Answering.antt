@@ -7,13 +7,14 @@ use native.Mathlib.Omega.{arith}
 use borrow.Author.Tests.{eq-eqb, ne-eqb, lt-ltb, le-ltb}
 use borrow.Rule.Slice.PartMut.{putMid, post-is}
 use lib.ListN.{length, take, drop}
-use Rattle.exact.specs.Index.{if}
+use Rattle.formula.specs.Words.{if}
 use Rattle.ship.specs.Record.{empty-ship}
-use Rattle.ship.specs.Refusals.{number-of, first-of, or-else}
+use Rattle.ship.specs.Refusals.{number-of, first-of}
 use Rattle.ship.specs.Rules.{refusal-of}
 use Rattle.ship.specs.declared.Ship.{Ship}
 use Rattle.ship.specs.declared.Refusal.{Refusal}
 use Rattle.ship.specs.declared.Refusal.the-variants.{None, Length, NoBlock}
+use Rattle.ship.proofs.Order.{or-else}
 use Rattle.ship.proofs.Right.{after-own}
 use Rattle.block.specs.Layout.{encode, ship-in}
 use Rattle.block.specs.Answers.{block-tests, read-refusal, loaded, read-of, no-block, write-refusal, write-of}

@@ -3,8 +3,11 @@
 use Prim.Native.Nat.{ℕ, _+_}
 use mathlib.Core.Path.{_≡_, refl}
 use mathlib.Core.List.{List, [], _∷_}
-use Rattle.fields.specs.Runs.{total}
-use Rattle.block.specs.Layout.{head, entry, entries, fields, widths}
+use native.Mathlib.Nat.{add-assoc}
+use Rattle.fields.specs.Numbers.{number-at}
+use Rattle.fields.specs.Runs.{numbers-at, total, widths-of}
+use Rattle.ship.specs.Record.{no-engine}
+use Rattle.block.specs.Layout.{head, entry, entries, newer, fields, widths}
 
 abbrev starts : ℕ → List ℕ → List ℕ
 starts at [] = []
@@ -18,9 +21,23 @@ pub places : starts 0 widths
     ∷ 112 ∷ 116 ∷ 120 ∷ 124 ∷ 126 ∷ 128 ∷ 129 ∷ 130
     ∷ 132
     ∷ []
-unfolding widths fields head entries entry
+unfolding widths fields head entries entry newer
 places = refl
 
 pub to-508 : total widths ≡ 508
-unfolding widths fields head entries entry total
+unfolding widths fields head entries entry newer total
 to-508 = refl
+
+-- And an entry's, wherever it stands.
+pub entry-places : (b : List ℕ) (at : ℕ) → numbers-at b at (widths-of (entry no-engine))
+    ≡ number-at b at 4
+    ∷ number-at b (at + 4) 4
+    ∷ number-at b (at + 8) 4
+    ∷ number-at b (at + 12) 2
+    ∷ number-at b (at + 14) 2
+    ∷ number-at b (at + 16) 1
+    ∷ number-at b (at + 17) 1
+    ∷ number-at b (at + 18) 2
+    ∷ []
+unfolding numbers-at entry
+entry-places b at = simp add-assoc

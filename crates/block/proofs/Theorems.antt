@@ -12,16 +12,16 @@ use lib.Seq.{take-at, drop-at, drop-drop, length-take-le, ext-getD}
 use mir.Val.{Val}
 use denote.Shadow.{shadow}
 use denote.Struct.Declared.{row}
-use Rattle.exact.specs.Index.{if}
+use Rattle.formula.specs.Words.{if}
 use Rattle.fields.specs.Numbers.{Bytes}
 use Rattle.fields.proofs.Numbers.{bytes-take, bytes-drop}
 use Rattle.ship.specs.Record.{empty-ship}
-use Rattle.ship.specs.Refusals.{number-of, First, first-of, or-else}
+use Rattle.ship.specs.Refusals.{number-of, First, first-of}
 use Rattle.ship.specs.Rules.{tests, refusal-of}
 use Rattle.ship.specs.declared.Ship.{Ship}
 use Rattle.ship.specs.declared.Refusal.{Refusal}
 use Rattle.ship.specs.declared.Refusal.the-variants.{None, Length, NoBlock}
-use Rattle.ship.proofs.Order.{first-is, first-one, none}
+use Rattle.ship.proofs.Order.{first-is, first-one, none, or-else, own-none}
 use Rattle.ship.proofs.Right.{after-own}
 use Rattle.ship.proofs.Ship.{the-type}
 use Rattle.ship.proofs.Typed.{four}
@@ -29,7 +29,7 @@ use Rattle.block.specs.Layout.{encode, ship-in}
 use Rattle.block.specs.Answers.{length-refused, block-tests, read-refusal, loaded, read-of, no-block, write-refusal, write-of}
 use Rattle.block.proofs.Codec.{encode-length}
 use Rattle.block.proofs.Answering.{write-accepted}
-use Rattle.block.proofs.Trips.{read-back, encode-back, own-none, record-accepted}
+use Rattle.block.proofs.Trips.{read-back, encode-back, record-accepted}
 
 -- ── Every input gets exactly one answer ─────────────────────────────────────────────────────
 
@@ -38,7 +38,7 @@ pub reading-one : (b : List ℕ) (r : Refusal) → First ((length-refused b, Len
 unfolding read-refusal
 reading-one b r f = first-one f (first-is _ None)
 
-pub writing-one : (f : List ℕ) (n : ℕ) (s : Ship) (r : Refusal) → First (tests s ++ ((no-block f n, NoBlock) ∷ [])) None r → r ≡ write-refusal f n s
+pub writing-one : (f : List ℕ) (n : ℕ) (s : Ship) (r : Refusal) → First (tests false s ++ ((no-block f n, NoBlock) ∷ [])) None r → r ≡ write-refusal f n s
 unfolding write-refusal
 writing-one f n s r h = first-one h (first-is _ None)
 
@@ -97,27 +97,28 @@ module _ (f : List ℕ) (n : ℕ) (s : Ship) where
     front : length (take (n * 512) f) ≡ n * 512
     front = length-take-le (n * 512) f (omega (arith, accepted-parts e .1))
 
+    from-block : drop (n * 512) (write-of f n s) ≡ encode s ++ drop (n * 512 + 512) f
+    from-block = rw (written e) (drop-at (take (n * 512) f) _ (n * 512) front)
+
     -- Its block holds the ship.
     pub block-written : block-of (write-of f n s) n ≡ encode s
-    block-written =
-        rw (written e, drop-at (take (n * 512) f) (encode s ++ drop (n * 512 + 512) f) (n * 512) front) (take-at (encode s) (drop (n * 512 + 512) f) 512 (encode-length s))
+    block-written = rw from-block (take-at (encode s) (drop (n * 512 + 512) f) 512 (encode-length s))
 
     pub ship-written : length (s .engines) ≡ 4 → read-of (block-of (write-of f n s) n) ≡ loaded None s
     ship-written four = ap read-of block-written ∙ read-back s four (accepted-parts e .0)
 
     before-stands : take (n * 512) (write-of f n s) ≡ take (n * 512) f
-    before-stands = rw (written e) (take-at (take (n * 512) f) (encode s ++ drop (n * 512 + 512) f) (n * 512) front)
+    before-stands = rw (written e) (take-at (take (n * 512) f) _ (n * 512) front)
 
     after-stands : drop (n * 512 + 512) (write-of f n s) ≡ drop (n * 512 + 512) f
-    after-stands =
-        sym (drop-drop 512 (n * 512) (write-of f n s))
-        ∙ rw (written e, drop-at (take (n * 512) f) (encode s ++ drop (n * 512 + 512) f) (n * 512) front) (drop-at (encode s) (drop (n * 512 + 512) f) 512 (encode-length s))
+    after-stands = sym (drop-drop 512 (n * 512) (write-of f n s)) ∙ rw from-block (drop-at (encode s) (drop (n * 512 + 512) f) 512 (encode-length s))
 
   -- Every other byte stands as it stood, refused or not.
   pub others-stand : (take (n * 512) (write-of f n s) ≡ take (n * 512) f) × (drop (n * 512 + 512) (write-of f n s) ≡ drop (n * 512 + 512) f)
   others-stand = go (eqb (number-of (write-refusal f n s)) 0) refl
     where
-      go : (t : Bool) → eqb (number-of (write-refusal f n s)) 0 ≡ t → (take (n * 512) (write-of f n s) ≡ take (n * 512) f) × (drop (n * 512 + 512) (write-of f n s) ≡ drop (n * 512 + 512) f)
+      go : (t : Bool) → eqb (number-of (write-refusal f n s)) 0 ≡ t
+          → (take (n * 512) (write-of f n s) ≡ take (n * 512) f) × (drop (n * 512 + 512) (write-of f n s) ≡ drop (n * 512 + 512) f)
       go true h =
           let e = none (write-refusal f n s) (eqb-true (number-of (write-refusal f n s)) 0 h) in
           (before-stands e, after-stands e)

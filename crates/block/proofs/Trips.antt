@@ -2,33 +2,30 @@
 -- Assumes nothing.
 use Prim.Native.Nat.{ℕ}
 use mathlib.Core.Path.{_≡_, refl, sym, ap, _∙_}
-use mathlib.Core.Bool.{Bool, true, false, not}
-use mathlib.Core.List.{List, [], _∷_, _++_, append-assoc}
+use mathlib.Core.Bool.{false, not}
+use mathlib.Core.List.{List, [], _∷_, append-nil}
 use native.Mathlib.Omega.{arith}
 use borrow.Author.Tests.{eqb-true, eq-eqb, not-false}
 use lib.Dec.{eqb}
 use lib.ListN.{length, getD, take, drop}
 use lib.Seq.{take-add, take-all}
-use Rattle.fields.specs.Numbers.{bytes-of, number-at, Bytes}
-use Rattle.fields.specs.Runs.{pack, total, numbers-at, numbers-of}
+use Rattle.fields.specs.Numbers.{number-at, Bytes}
+use Rattle.fields.specs.Runs.{pack, total, numbers-at, numbers-of, packed}
 use Rattle.fields.specs.Checks.{sums}
-use Rattle.fields.proofs.Numbers.{value-bytes, bytes-number}
 use Rattle.fields.proofs.Checks.{sums-below}
-use Rattle.fields.proofs.Runs.{unpack, repack}
-use Rattle.exact.specs.Index.{if}
+use Rattle.fields.proofs.Runs.{Fit, none, _&_, unpack, repack}
 use Rattle.ship.specs.Record.{no-engine}
-use Rattle.ship.specs.Refusals.{number-of, first-of, or-else}
+use Rattle.ship.specs.Refusals.{first-of}
 use Rattle.ship.specs.Rules.{nonzero, tests, refusal-of}
 use Rattle.ship.specs.declared.Engine.{Engine}
 use Rattle.ship.specs.declared.Ship.{Ship}
-use Rattle.ship.specs.declared.Refusal.{Refusal}
-use Rattle.ship.specs.declared.Refusal.the-variants.{None, Length, Unused}
-use Rattle.ship.proofs.Order.{passed, none}
+use Rattle.ship.specs.declared.Refusal.the-variants.{None, Length, Check, Layout}
+use Rattle.ship.proofs.Order.{next-test}
 use Rattle.ship.proofs.Tests.{neither, is-zero}
-use Rattle.ship.proofs.Right.{right, after-own}
-use Rattle.block.specs.Layout.{head, entry, entries, fields, widths, body, encode, numbers-in, ship-from, ship-in}
+use Rattle.ship.proofs.Right.{numbers-accepted, own-refusal, all-passed as passed-rows}
+use Rattle.block.specs.Layout.{head, entry, entries, newer, fields, widths, body, encode, numbers-in, ship-from, ship-in}
 use Rattle.block.specs.Answers.{length-refused, check-refused, layout-refused, zeros-refused, block-tests, read-refusal, loaded, read-of}
-use Rattle.block.proofs.Codec.{encode-length, take-body, first-check, second-check}
+use Rattle.block.proofs.Codec.{encode-length, take-body, drop-body}
 use Rattle.block.proofs.Fitting.{fits}
 
 -- ── A record that is written ────────────────────────────────────────────────────────────────
@@ -50,28 +47,25 @@ from-table s h =
 
 module _ (s : Ship) (four : length (s .engines) ≡ 4) (own : refusal-of s ≡ None) where
   numbers-back : numbers-in (encode s) ≡ numbers-of (fields s)
-  unfolding numbers-in encode body widths fields head entries entry
+  unfolding numbers-in encode body widths fields head entries entry newer
   numbers-back =
-      let q = bytes-of 2 (sums 1 0 (body s) .a) ++ bytes-of 2 (sums 1 0 (body s) .b) in
-      unpack widths (numbers-of (fields s)) (encode s) q 0 (fits s (right s own)) refl
+      let q = packed ((2, sums 1 0 (body s) .a) ∷ (2, sums 1 0 (body s) .b) ∷ []) in
+      unpack (encode s) q 0 (fits s (numbers-accepted s own)) refl
 
   pub ship-back : ship-in (encode s) ≡ s
   unfolding ship-in
   ship-back = ap ship-from numbers-back ∙ from-table s four
 
   check-holds : check-refused (encode s) ≡ false
-  unfolding check-refused number-at
+  unfolding check-refused numbers-at
   check-holds =
-      let q = sums-below 1 0 (body s) (omega arith) (omega arith) in
-      rw (
-        take-body s,
-        first-check s,
-        second-check s,
-        value-bytes 2 (sums 1 0 (body s) .a) (q .0),
-        value-bytes 2 (sums 1 0 (body s) .b) (q .1),
-        eq-eqb (sums 1 0 (body s) .a) (sums 1 0 (body s) .a) refl,
-        eq-eqb (sums 1 0 (body s) .b) (sums 1 0 (body s) .b) refl,
-      )
+      let q = sums 1 0 (body s) in
+      let small = sums-below 1 0 (body s) (omega arith) (omega arith) in
+      let fit : Fit ((2, q .a) ∷ (2, q .b) ∷ []) = small .0 & small .1 & none in
+      let n = unpack (encode s) [] 508 fit (drop-body s ∙ sym (append-nil _)) in
+      let a : number-at (encode s) 508 2 ≡ q .a = ap (λ (l : List ℕ). getD l 0 0) n in
+      let b : number-at (encode s) 510 2 ≡ q .b = ap (λ (l : List ℕ). getD l 1 0) n in
+      rw (take-body s, a, b, eq-eqb (q .a) (q .a) refl, eq-eqb (q .b) (q .b) refl)
 
   -- The fields that the record has no say in.
   layout-holds : layout-refused (encode s) ≡ false
@@ -79,13 +73,12 @@ module _ (s : Ship) (four : length (s .engines) ≡ 4) (own : refusal-of s ≡ N
   layout-holds = rw numbers-back
 
   zeros-hold : zeros-refused (encode s) ≡ false
-  unfolding zeros-refused fields head entries entry
+  unfolding zeros-refused fields head entries entry newer
   zeros-hold = rw numbers-back
 
   no-refusal : read-refusal (encode s) ≡ None
-  unfolding read-refusal block-tests first-of or-else
-  no-refusal =
-      rw (eq-eqb (length (encode s)) 512 (encode-length s), check-holds, layout-holds, zeros-hold, ship-back, after-own s ((false, Unused) ∷ []), own)
+  unfolding read-refusal block-tests first-of refusal-of
+  no-refusal = rw (eq-eqb (length (encode s)) 512 (encode-length s), check-holds, layout-holds, zeros-hold, ship-back) own
 
   pub read-back : read-of (encode s) ≡ loaded None s
   unfolding read-of
@@ -93,7 +86,25 @@ module _ (s : Ship) (four : length (s .engines) ≡ 4) (own : refusal-of s ≡ N
 
 -- ── A block that is read ────────────────────────────────────────────────────────────────────
 
--- What an accepted block has, beside its record.
+equal : (m n : ℕ) → not (eqb m n) ≡ false → m ≡ n
+equal m n e = eqb-true m n (not-false (eqb m n) e)
+
+-- What an accepted block has passed, row by row.
+record Passed (b : List ℕ) : Type 0 where
+  length : length-refused b ≡ false
+  check : check-refused b ≡ false
+  layout : layout-refused b ≡ false
+  own : first-of (tests (zeros-refused b) (ship-in b)) None ≡ None
+
+all-passed : (b : List ℕ) → read-refusal b ≡ None → Passed b
+unfolding read-refusal block-tests first-of
+all-passed b e =
+    let l = next-test (length-refused b) Length _ refl e in
+    let c = next-test (check-refused b) Check _ refl (l .1) in
+    let y = next-test (layout-refused b) Layout _ refl (c .1) in
+    record { length = l .0; check = c .0; layout = y .0; own = y .1 }
+
+-- So it has, beside its record:
 record Sealed (b : List ℕ) : Type 0 where
   long : length b ≡ 512
   check-a : number-at b 508 2 ≡ sums 1 0 (take 508 b) .a
@@ -101,25 +112,22 @@ record Sealed (b : List ℕ) : Type 0 where
   layout : getD (numbers-in b) 0 0 ≡ 1
   zeros : zeros-refused b ≡ false
 
-equal : (m n : ℕ) → not (eqb m n) ≡ false → m ≡ n
-equal m n e = eqb-true m n (not-false (eqb m n) e)
-
 sealed : (b : List ℕ) → read-refusal b ≡ None → Sealed b
-unfolding read-refusal block-tests tests check-refused layout-refused
+unfolding check-refused layout-refused
 sealed b e =
-    let p = passed ((length-refused b, Length) ∷ block-tests b (ship-in b)) None refl e in
-    let c = neither (not (eqb (number-at b 508 2) (sums 1 0 (take 508 b) .a))) (not (eqb (number-at b 510 2) (sums 1 0 (take 508 b) .b))) (p 1) in
+    let p = all-passed b e in
+    let c = neither (not (eqb (number-at b 508 2) (sums 1 0 (take 508 b) .a))) (not (eqb (number-at b 510 2) (sums 1 0 (take 508 b) .b))) (p .check) in
     record {
-      long = equal (length b) 512 (p 0);
+      long = equal (length b) 512 (p .length);
       check-a = equal (number-at b 508 2) (sums 1 0 (take 508 b) .a) (c .0);
       check-b = equal (number-at b 510 2) (sums 1 0 (take 508 b) .b) (c .1);
-      layout = equal (getD (numbers-in b) 0 0) 1 (p 2);
-      zeros = p 16;
+      layout = equal (getD (numbers-in b) 0 0) 1 (p .layout);
+      zeros = passed-rows (zeros-refused b) (ship-in b) (p .own) .zeros;
     }
 
 -- The table of the record that stands in a block has the block's numbers.
 to-table : (b : List ℕ) → Sealed b → numbers-of (fields (ship-in b)) ≡ numbers-in b
-unfolding ship-in ship-from numbers-in numbers-at widths fields head entries entry zeros-refused
+unfolding ship-in ship-from numbers-in numbers-at widths fields head entries entry newer zeros-refused
 to-table b h =
     let z6 = neither _ (nonzero (number-at b 132 376)) (h .zeros) in
     let z5 = neither _ (nonzero (number-at b 130 2)) (z6 .0) in
@@ -138,39 +146,19 @@ to-table b h =
     ))
 
 body-back : (b : List ℕ) → Bytes b → Sealed b → body (ship-in b) ≡ take 508 b
-unfolding body numbers-in widths fields head entries entry total
+unfolding body numbers-in widths fields head entries entry newer total
 body-back b h r =
     let n = r .long in
     ap (pack widths) (to-table b r) ∙ repack widths b 0 h (omega arith)
 
 pub encode-back : (b : List ℕ) → Bytes b → read-refusal b ≡ None → encode (ship-in b) ≡ b
-unfolding encode
+unfolding encode numbers-at total
 encode-back b h e =
     let r = sealed b e in
     let n = r .long in
-    let f : bytes-of 2 (sums 1 0 (take 508 b) .a) ≡ take 2 (drop 508 b) = rw (← r .check-a) (bytes-number b 508 2 h (omega arith)) in
-    let g : bytes-of 2 (sums 1 0 (take 508 b) .b) ≡ take 2 (drop 510 b) = rw (← r .check-b) (bytes-number b 510 2 h (omega arith)) in
-    rw (body-back b h r, f, g)
-    (sym (append-assoc (take 508 b) (take 2 (drop 508 b)) (take 2 (drop 510 b)))
-    ∙ ap (λ (l : List ℕ). l ++ take 2 (drop 510 b)) (sym (take-add 508 2 b))
-    ∙ sym (take-add 510 2 b)
-    ∙ take-all 512 b (omega arith))
+    let c : packed ((2, number-at b 508 2) ∷ (2, number-at b 510 2) ∷ []) ≡ take 4 (drop 508 b) = repack (2 ∷ 2 ∷ []) b 508 h (omega arith) in
+    rw (body-back b h r, ← r .check-a, ← r .check-b, c, ← take-add 508 4 b) (take-all 512 b (omega arith))
 
 -- An accepted block's record has no refusal of its own.
-pub own-none : (r rest : Refusal) → or-else r rest ≡ None → r ≡ None
-unfolding or-else
-own-none r rest = go (eqb (number-of r) 0) refl
-  where
-    go : (t : Bool) → eqb (number-of r) 0 ≡ t → if t rest r ≡ None → r ≡ None
-    go true e h = none r (eqb-true (number-of r) 0 e)
-    go false e h = h
-
-later : (t : Bool) (n r : Refusal) → if t n r ≡ None → t ≡ false → r ≡ None
-later true n r e h = absurd (let z : _≡_ {A = ℕ} 0 1 = cc in omega arith)
-later false n r e h = e
-
 pub record-accepted : (b : List ℕ) → read-refusal b ≡ None → refusal-of (ship-in b) ≡ None
-unfolding read-refusal block-tests tests first-of
-record-accepted b e =
-    let p = passed ((length-refused b, Length) ∷ block-tests b (ship-in b)) None refl e in
-    own-none _ _ (sym (after-own (ship-in b) ((zeros-refused b, Unused) ∷ [])) ∙ later _ _ _ (later _ _ _ (later _ _ _ e (p 0)) (p 1)) (p 2))
+record-accepted b e = own-refusal (zeros-refused b) (ship-in b) (all-passed b e .own)

@@ -2,10 +2,10 @@
 -- Assumes nothing.
 use Prim.Native.Nat.{ℕ, _+_, _*_}
 use mathlib.Core.List.{List, [], _∷_, _++_}
-use mathlib.Core.Bool.{Bool, _||_, not}
+use mathlib.Core.Bool.{Bool, false, _||_, not}
 use lib.ListN.{length, getD, take, drop}
 use lib.Dec.{eqb, ltb}
-use Rattle.exact.specs.Index.{if}
+use Rattle.formula.specs.Words.{if}
 use Rattle.fields.specs.Numbers.{number-at}
 use Rattle.fields.specs.Checks.{sums}
 use Rattle.ship.specs.Record.{empty-ship}
@@ -13,7 +13,7 @@ use Rattle.ship.specs.Refusals.{number-of, first-of}
 use Rattle.ship.specs.Rules.{nonzero, tests}
 use Rattle.ship.specs.declared.Ship.{Ship}
 use Rattle.ship.specs.declared.Refusal.{Refusal}
-use Rattle.ship.specs.declared.Refusal.the-variants.{None, Length, Check, Layout, Unused, NoBlock}
+use Rattle.ship.specs.declared.Refusal.the-variants.{None, Length, Check, Layout, NoBlock}
 use Rattle.block.specs.Layout.{encode, numbers-in, ship-in}
 use Rattle.block.specs.declared.Loaded.{Loaded}
 
@@ -25,22 +25,25 @@ length-refused b = not (eqb (length b) 512)
 
 -- 2: check differs: A of bytes 0–507 stands in 508–509, B in 510–511.
 unfoldable pub check-refused : List ℕ → Bool
-check-refused b =
-    not (eqb (number-at b 508 2) (sums 1 0 (take 508 b) .a)) || not (eqb (number-at b 510 2) (sums 1 0 (take 508 b) .b))
+check-refused b = not (eqb (number-at b 508 2) (sums 1 0 (take 508 b) .a)) || not (eqb (number-at b 510 2) (sums 1 0 (take 508 b) .b))
 
 -- 3: layout not 1.
 unfoldable pub layout-refused : List ℕ → Bool
 layout-refused b = not (eqb (getD (numbers-in b) 0 0) 1)
 
+-- Of bytes 132–507 all that no field has must be zero.
+abbrev pub newer-refused : List ℕ → Bool
+newer-refused ns = nonzero (getD ns 52 0)
+
 -- 16: a byte that must be zero isn't: one of 49–51, of the last two of an engine entry, or of 132–507.
 unfoldable pub zeros-refused : List ℕ → Bool
 zeros-refused b =
     let n = getD (numbers-in b) in
-    nonzero (n 19 0) || nonzero (n 27 0) || nonzero (n 35 0) || nonzero (n 43 0) || nonzero (n 51 0) || nonzero (n 52 0)
+    nonzero (n 19 0) || nonzero (n 27 0) || nonzero (n 35 0) || nonzero (n 43 0) || nonzero (n 51 0) || newer-refused (numbers-in b)
 
 -- The tests of 512 bytes with the record s, in order of checking.
 unfoldable pub block-tests : List ℕ → Ship → List (Bool × Refusal)
-block-tests b s = (check-refused b, Check) ∷ (layout-refused b, Layout) ∷ (tests s ++ ((zeros-refused b, Unused) ∷ []))
+block-tests b s = (check-refused b, Check) ∷ (layout-refused b, Layout) ∷ tests (zeros-refused b) s
 
 -- The first refusal of bytes, or none.
 unfoldable pub read-refusal : List ℕ → Refusal
@@ -61,7 +64,7 @@ no-block f n = ltb (length f) (n * 512 + 512)
 
 -- The record's own refusal, then 17.
 unfoldable pub write-refusal : List ℕ → ℕ → Ship → Refusal
-write-refusal f n s = first-of (tests s ++ ((no-block f n, NoBlock) ∷ [])) None
+write-refusal f n s = first-of (tests false s ++ ((no-block f n, NoBlock) ∷ [])) None
 
 -- The file with the ship in its block, every other byte as it stood; on refusal as it stood.
 unfoldable pub write-of : List ℕ → ℕ → Ship → List ℕ

@@ -3,7 +3,6 @@
 use Prim.Native.Nat.{ℕ}
 use mathlib.Core.List.{List, [], _∷_, _++_}
 use lib.ListN.{getD, drop}
-use Rattle.fields.specs.Numbers.{bytes-of}
 use Rattle.fields.specs.Runs.{numbers-at, widths-of, packed}
 use Rattle.fields.specs.Checks.{sums}
 use Rattle.ship.specs.Record.{no-engine, empty-ship}
@@ -25,12 +24,12 @@ head s =
     ∷ (4, p .imo)  -- 4–7
     ∷ (4, p .deadweight .tonnes)  -- 8–11
     ∷ (4, p .gross .gt)  -- 12–15
-    ∷ (4, p .volume)  -- 16–19
+    ∷ (4, p .cargo)  -- 16–19
     ∷ (4, s .speed .low)  -- 20–23
     ∷ (4, s .speed .high)  -- 24–27
     ∷ (4, p .trial .power)  -- 28–31
     ∷ (4, p .trial .deadweight .tonnes)  -- 32–35
-    ∷ (1, p .auxiliary)  -- 36
+    ∷ (1, p .supply)  -- 36
     ∷ (1, p .ice)  -- 37
     ∷ (1, p .used)  -- 38
     ∷ (1, s .auxiliary .source)  -- 39
@@ -58,13 +57,16 @@ entry e =
 unfoldable pub entries : List Engine → List (ℕ × ℕ)
 entries es = entry (getD es 0 no-engine) ++ (entry (getD es 1 no-engine) ++ (entry (getD es 2 no-engine) ++ entry (getD es 3 no-engine)))
 
+-- Bytes 132–507: where later requests put their fields.
+unfoldable pub newer : Ship → List (ℕ × ℕ)
+newer s = (376, 0) ∷ []  -- 132–507 zero
+
 -- Bytes 0–507.
 unfoldable pub fields : Ship → List (ℕ × ℕ)
-fields s = head s ++ (entries (s .engines) ++ ((376, 0) ∷ []))  -- 132–507 zero
+fields s = head s ++ (entries (s .engines) ++ newer s)
 
 -- The widths are every record's.
 unfoldable pub widths : List ℕ
-unfolding fields head entries entry
 widths = widths-of (fields empty-ship)
 
 -- ── Written ─────────────────────────────────────────────────────────────────────────────────
@@ -74,7 +76,7 @@ body s = packed (fields s)
 
 -- Check A starts at 1, B at 0.
 unfoldable pub encode : Ship → List ℕ
-encode s = body s ++ (bytes-of 2 (sums 1 0 (body s) .a) ++ bytes-of 2 (sums 1 0 (body s) .b))
+encode s = body s ++ packed ((2, sums 1 0 (body s) .a) ∷ (2, sums 1 0 (body s) .b) ∷ [])
 
 -- ── Read ────────────────────────────────────────────────────────────────────────────────────
 
@@ -86,9 +88,11 @@ numbers-in b = numbers-at b 0 widths
 abbrev pub range-at : List ℕ → ℕ → ℕ → Range
 range-at ns low high = record { low = getD ns low 0; high = getD ns high 0 }
 
+abbrev pub uses-at : List ℕ → ℕ → ℕ → ℕ → ℕ → Consumption
+uses-at ns low high fuel source = record { sfc = range-at ns low high; fuel = getD ns fuel 0; source = getD ns source 0 }
+
 abbrev pub engine-from : List ℕ → Engine
-engine-from ns =
-    record { mcr = range-at ns 0 1; limit = getD ns 2 0; uses = record { sfc = range-at ns 3 4; fuel = getD ns 5 0; source = getD ns 6 0 } }
+engine-from ns = record { mcr = range-at ns 0 1; limit = getD ns 2 0; uses = uses-at ns 3 4 5 6 }
 
 abbrev pub engines-from : List ℕ → List Engine
 engines-from ns = engine-from (drop 20 ns) ∷ engine-from (drop 28 ns) ∷ engine-from (drop 36 ns) ∷ engine-from (drop 44 ns) ∷ []
@@ -100,20 +104,17 @@ particulars-from ns =
       kind = getD ns 1 0;
       deadweight = record { tonnes = getD ns 4 0 };
       gross = record { gt = getD ns 5 0 };
-      volume = getD ns 6 0;
+      cargo = getD ns 6 0;
       method = getD ns 2 0;
       trial = record { power = getD ns 9 0; deadweight = record { tonnes = getD ns 10 0 } };
-      auxiliary = getD ns 11 0;
+      supply = getD ns 11 0;
       table = getD ns 15 0;
       ice = getD ns 12 0;
       used = getD ns 13 0;
     }
 
-abbrev pub auxiliary-from : List ℕ → Consumption
-auxiliary-from ns = record { sfc = range-at ns 16 17; fuel = getD ns 18 0; source = getD ns 14 0 }
-
 unfoldable pub ship-from : List ℕ → Ship
-ship-from ns = record { particulars = particulars-from ns; speed = range-at ns 7 8; auxiliary = auxiliary-from ns; engines = engines-from ns }
+ship-from ns = record { particulars = particulars-from ns; speed = range-at ns 7 8; auxiliary = uses-at ns 16 17 18 14; engines = engines-from ns }
 
 unfoldable pub ship-in : List ℕ → Ship
 ship-in b = ship-from (numbers-in b)

@@ -12,51 +12,38 @@ use ship::Refusal;
 use ship::Ship;
 use ship::Trial;
 use ship::rules::first;
-use ship::rules::or;
-use ship::rules::refusal;
+use ship::rules::first_broken;
 ghost use mathlib.Core.Path.{_≡_};
-ghost use Prim.Native.Nat.{_-_, _≤_};
+ghost use Prim.Native.Nat.{_+_, _-_, _≤_};
 ghost use lib.ListN.{length};
 ghost use Rattle.fields.specs.Numbers.{number-at};
 ghost use Rattle.fields.specs.Runs.{numbers-at, widths-of};
 ghost use Rattle.ship.specs.Record.{no-engine};
 ghost use Rattle.ship.specs.Refusals.{first-of};
 ghost use Rattle.ship.specs.Rules.{nonzero};
-ghost use Rattle.block.specs.Layout.{entry, numbers-in, engine-from, engines-from, particulars-from, auxiliary-from, ship-in};
-ghost use Rattle.block.specs.Answers.{check-refused, zeros-refused, block-tests};
+ghost use Rattle.block.specs.Layout.{entry, numbers-in, uses-at, engine-from, particulars-from, ship-in};
+ghost use Rattle.block.specs.Answers.{check-refused, newer-refused, zeros-refused, block-tests};
 
-// The engine of an entry of 20 bytes.
-fn engine_in(bytes: &[u8]) -> Engine
-    requires { ⌜ length (now bytes) ≡ 20 ⌝ }
-    ensures { λ r. ⌜ r ≡ engine-from (numbers-at (now (bytes .entry)) 0 (widths-of (entry no-engine))) ⌝ }
+// The engine of the entry of 20 bytes that starts at `at`.
+fn engine_at(block: &[u8], at: usize) -> Engine
+    requires { ⌜ at + 20 ≤ length (now block) ⌝ }
+    ensures { λ r. ⌜ r ≡ engine-from (numbers-at (now (block .entry)) at (widths-of (entry no-engine))) ⌝ }
 {
     let mcr = Range {
-        low: number_at(bytes, 0, 4),
-        high: number_at(bytes, 4, 4),
+        low: number_at(block, at, 4),
+        high: number_at(block, at + 4, 4),
     };
-    let limit = number_at(bytes, 8, 4);
+    let limit = number_at(block, at + 8, 4);
     let sfc = Range {
-        low: number_at(bytes, 12, 2),
-        high: number_at(bytes, 14, 2),
+        low: number_at(block, at + 12, 2),
+        high: number_at(block, at + 14, 2),
     };
     let uses = Consumption {
         sfc,
-        fuel: number_at(bytes, 16, 1),
-        source: number_at(bytes, 17, 1),
+        fuel: number_at(block, at + 16, 1),
+        source: number_at(block, at + 17, 1),
     };
     Engine { mcr, limit, uses }
-}
-
-fn engines_in(block: &[u8]) -> [Engine; 4]
-    requires { ⌜ length (now block) ≡ 512 ⌝ }
-    ensures { λ r. ⌜ r ≡ engines-from (numbers-in (now (block .entry))) ⌝ }
-{
-    [
-        engine_in(&block[52..72]),
-        engine_in(&block[72..92]),
-        engine_in(&block[92..112]),
-        engine_in(&block[112..132]),
-    ]
 }
 
 fn particulars_in(block: &[u8]) -> Particulars
@@ -78,10 +65,10 @@ fn particulars_in(block: &[u8]) -> Particulars
         gross: GrossTonnage {
             gt: number_at(block, 12, 4),
         },
-        volume: number_at(block, 16, 4),
+        cargo: number_at(block, 16, 4),
         method: number_at(block, 3, 1),
         trial,
-        auxiliary: number_at(block, 36, 1),
+        supply: number_at(block, 36, 1),
         table: number_at(block, 40, 4),
         ice: number_at(block, 37, 1),
         used: number_at(block, 38, 1),
@@ -91,7 +78,7 @@ fn particulars_in(block: &[u8]) -> Particulars
 // The consumption of the auxiliary engines.
 fn auxiliary_in(block: &[u8]) -> Consumption
     requires { ⌜ length (now block) ≡ 512 ⌝ }
-    ensures { λ r. ⌜ r ≡ auxiliary-from (numbers-in (now (block .entry))) ⌝ }
+    ensures { λ r. ⌜ r ≡ uses-at (numbers-in (now (block .entry))) 16 17 18 14 ⌝ }
 {
     let sfc = Range {
         low: number_at(block, 44, 2),
@@ -115,7 +102,12 @@ pub(crate) fn ship_in(block: &[u8]) -> Ship
         high: number_at(block, 24, 4),
     };
     let auxiliary = auxiliary_in(block);
-    let engines = engines_in(block);
+    let engines = [
+        engine_at(block, 52),
+        engine_at(block, 72),
+        engine_at(block, 92),
+        engine_at(block, 112),
+    ];
     Ship {
         particulars,
         speed,
@@ -143,6 +135,14 @@ fn not_zero(block: &[u8], at: usize, end: usize) -> bool
     !all_zero(&block[at..end])
 }
 
+// Whether one of the bytes from 132 on that no field has isn't zero.
+fn newer_broken(block: &[u8]) -> bool
+    requires { ⌜ length (now block) ≡ 512 ⌝ }
+    ensures { λ r. ⌜ r ≡ newer-refused (numbers-in (now (block .entry))) ⌝ }
+{
+    not_zero(block, 132, 508)
+}
+
 // Whether a byte that must be zero isn't.
 fn zeros_broken(block: &[u8]) -> bool
     requires { ⌜ length (now block) ≡ 512 ⌝ }
@@ -153,7 +153,7 @@ fn zeros_broken(block: &[u8]) -> bool
         | not_zero(block, 90, 92)
         | not_zero(block, 110, 112)
         | not_zero(block, 130, 132)
-        | not_zero(block, 132, 508)
+        | newer_broken(block)
 }
 
 // The first rule that a block and the record that stands in it break, or none.
@@ -161,8 +161,7 @@ pub(crate) fn block_refusal(block: &[u8], ship: Ship) -> Refusal
     requires { ⌜ length (now block) ≡ 512 ⌝ }
     ensures { λ r. ⌜ r ≡ first-of (block-tests (now (block .entry)) ship) Refusal.None ⌝ }
 {
-    let zeros = first(zeros_broken(block), Refusal::Unused, Refusal::None);
-    let own = or(refusal(ship), zeros);
+    let own = first_broken(zeros_broken(block), ship);
     let layout = first(number_at(block, 0, 2) != 1, Refusal::Layout, own);
     first(check_broken(block), Refusal::Check, layout)
 }

@@ -11,7 +11,7 @@ use borrow.Author.Tests.{ltb-true, ltb-false, lt-ltb, le-ltb}
 use lib.Dec.{ltb}
 use lib.ListN.{length, drop, set, length-append, length-set, drop-of-length-le}
 use lib.Seq.{drop-cons, drop-set-lt, getD-set-same, append-snoc}
-use Rattle.exact.specs.Index.{if}
+use Rattle.formula.specs.Words.{if}
 use Rattle.decimal.specs.Digits.{digit, spelled, decimal}
 
 -- ── The two rules of decimal ────────────────────────────────────────────────────────────────

@@ -5,7 +5,7 @@ use mathlib.Core.Path.{_≡_}
 use mathlib.Core.List.{List, [], _∷_, _++_}
 use lib.Dec.{ltb}
 use lib.ListN.{length, take, drop}
-use Rattle.exact.specs.Index.{if}
+use Rattle.formula.specs.Words.{if}
 
 -- The byte of a digit: 0 is 48 in ASCII.
 abbrev pub digit : ℕ → ℕ

@@ -7,7 +7,7 @@ use Prim.Native.Nat.{ℕ}
 use mathlib.Core.List.{List}
 use borrow.Author.Tests.{ne-eqb, eqb-true}
 use lib.Dec.{eqb}
-use Rattle.exact.specs.Index.{if}
+use Rattle.formula.specs.Words.{if}
 use Rattle.ship.specs.Figures.{figures}
 use Rattle.ship.specs.Refusals.{number-of}
 use Rattle.ship.specs.Rules.{refusal-of}

@@ -12,22 +12,23 @@ use mathlib.Core.Logic.{_↔_}
 use mir.Val.{Val}
 use denote.Shadow.{shadow}
 use denote.Struct.Declared.{row}
-use Rattle.exact.specs.Formula.{_//_, Formula, below, above, bounds, Enclosed}
+use Rattle.formula.specs.Formula.{_//_, Formula, below, above, bounds, Enclosed}
 use Rattle.exact.specs.Ship.{declared, Figures}
 use Rattle.exact.specs.Ranges.{Range, low, high, Inside, Narrowed, Stands-for, most-favourable, least-favourable}
-use Rattle.exact.specs.Index.{whole, f-c, speed, index}
-use Rattle.exact.proofs.Formulas.{consistent}
+use Rattle.formula.specs.Words.{whole}
+use Rattle.exact.specs.Index.{f-c, speed, index}
+use Rattle.formula.proofs.Formulas.{consistent}
 use Rattle.exact.proofs.Favour.{stands-most, stands-least, inside-enclosed, ship-inside, low-inside, high-inside}
 use Rattle.ship.specs.Figures.{figures}
 use Rattle.ship.specs.Refusals.{number-of, First, given}
 use Rattle.ship.specs.Rules.{tests, refusal-of}
-use Rattle.ship.specs.Accepted.{Accepted}
+use Rattle.ship.specs.Accepted.{Accepted-figures}
 use Rattle.ship.specs.declared.Refusal.{Refusal}
 use Rattle.ship.specs.declared.Refusal.the-variants.{None, Length}
 use Rattle.ship.specs.declared.Ship.{Ship}
 use Rattle.ship.proofs.Order.{first-is, first-one, none}
 use Rattle.ship.specs.Ends.{record-end, Narrower-record}
-use Rattle.ship.proofs.Figured.{accepted}
+use Rattle.ship.proofs.Figured.{figures-accepted}
 use Rattle.ship.proofs.Ends as ends
 use Rattle.ship.proofs.Narrowing as narrowing-of
 use Rattle.ship.proofs.Ship.{the-type}
@@ -40,7 +41,7 @@ use Rattle.speed.specs.Speeds.{Speed}
 use Rattle.index.specs.Attained.{speed-of, lower-of, upper-of, index-of}
 use Rattle.index.specs.declared.Index.{Index}
 use Rattle.index.proofs.Laws as law
-use Rattle.desk.specs.Answers.{answer-of, answer-of-block, number-in, lower-in, upper-in, Taken, lower, upper}
+use Rattle.desk.specs.Answers.{answer-of, answer-of-block, number-in, lower-in, upper-in, Accepted-record, lower, upper}
 use Rattle.desk.specs.declared.Answer.the-variants.{Bounds, Refused}
 use Rattle.desk.proofs.Answering.{refused, bounded, numbered, zero-bounded, block-accepted}
 use mathlib.Core.Bool.{Bool, true, false}
@@ -48,9 +49,9 @@ use mathlib.Core.Bool.{Bool, true, false}
 -- ── Demand 1: every input has exactly one answer, by the first rule broken ──────────────────
 
 -- A record's refusal is that of the first of its tests, in the order of docs/RULES.md, that holds; or none.
-pub record-first : (s : Ship) → First (tests s) None (refusal-of s)
+pub record-first : (s : Ship) → First (tests false s) None (refusal-of s)
 unfolding refusal-of
-record-first s = first-is (tests s) None
+record-first s = first-is (tests false s) None
 
 -- With none the answer is the two bounds, and with any other it is that refusal and no bounds.
 pub record-bounded : (s : Ship) → refusal-of s ≡ None → answer-of s ≡ Bounds (index-of (figures s))
@@ -62,7 +63,7 @@ unfolding answer-of
 record-refused s h = sym (refused s refl (λ e. h (none _ e)))
 
 -- So the answer's number is that of the first rule broken, and 0 exactly where there are bounds; a refusal has no bound.
-pub record-number : (s : Ship) (r : Refusal) → First (tests s) None r → number-in (answer-of s) ≡ number-of r
+pub record-number : (s : Ship) (r : Refusal) → First (tests false s) None r → number-in (answer-of s) ≡ number-of r
 unfolding answer-of
 record-number s r f = numbered (refusal-of s) s ∙ ap number-of (first-one (record-first s) f)
 
@@ -112,21 +113,21 @@ file-kept f n s h = rw (ne-eqb (number-of (write-refusal f n s)) 0 (λ e. h (non
 
 -- ── An accepted record ──────────────────────────────────────────────────────────────────────
 
-ranges-kept : {s : Ship} → Taken s → Accepted (figures s)
-ranges-kept {s} t = accepted s (t .entries) (t .none)
+ranges-kept : {s : Ship} → Accepted-record s → Accepted-figures (figures s)
+ranges-kept {s} t = figures-accepted s (t .entries) (t .none)
 
-lower-is : {s : Ship} → Taken s → lower s ≡ lower-of (most-favourable (figures s))
+lower-is : {s : Ship} → Accepted-record s → lower s ≡ lower-of (most-favourable (figures s))
 unfolding index-of
 lower-is {s} t = rw (record-bounded s (t .none))
 
-upper-is : {s : Ship} → Taken s → upper s ≡ upper-of (least-favourable (figures s))
+upper-is : {s : Ship} → Accepted-record s → upper s ≡ upper-of (least-favourable (figures s))
 unfolding index-of
 upper-is {s} t = rw (record-bounded s (t .none))
 
 -- ── Demand 2: without ranges ────────────────────────────────────────────────────────────────
 
 -- The record s stands for the one ship f.
-module _ {s : Ship} {f : Figures ℕ} (t : Taken s) (one : Stands-for (figures s) f) where
+module _ {s : Ship} {f : Figures ℕ} (t : Accepted-record s) (one : Stands-for (figures s) f) where
   -- The bounds enclose the exact index of MEPC.333(76), fractional powers included.
   pub encloses : Enclosed (index f) (lower s // 1000000) (upper s // 1000000)
   encloses =
@@ -157,29 +158,29 @@ in-order : {e : Formula} {n m : ℕ} → Enclosed e (n // 1000000) (m // 1000000
 in-order {e} h = omega (arith, consistent e (h .low) (h .high) .cross)
 
 -- Both bounds are below 2^53.
-pub bounds-small : {s : Ship} → Taken s → (lower s < 2 ^ 53) × (upper s < 2 ^ 53)
+pub bounds-small : {s : Ship} → Accepted-record s → (lower s < 2 ^ 53) × (upper s < 2 ^ 53)
 bounds-small t =
     rw (lower-is t, upper-is t)
     (lt-of-le-of-lt (in-order (law.encloses false (ranges-kept t))) (law.small false (ranges-kept t)), law.small true (ranges-kept t))
 
 -- The upper one is above 0, so that two zeros stand for no bounds alone.
-pub bounds-some : {s : Ship} → Taken s → 0 < upper s
+pub bounds-some : {s : Ship} → Accepted-record s → 0 < upper s
 bounds-some t = rw (upper-is t) (law.some true (ranges-kept t))
 
 -- A ship written to a block reads back as the same ship; an accepted block written again has the same bytes.
-pub ship-back : {s : Ship} → Taken s → read-of (encode s) ≡ loaded None s
+pub ship-back : {s : Ship} → Accepted-record s → read-of (encode s) ≡ loaded None s
 ship-back {s} t = block.same-ship s (t .entries) (t .none)
 
 pub bytes-back : (b : List ℕ) → Bytes b → read-refusal b ≡ None → encode (read-of b .ship) ≡ b
 bytes-back = block.same-bytes
 
-end-taken : {s : Ship} (top : Bool) → Taken s → Taken (record-end top s)
-end-taken {s} top t = record { entries = ends.entries-end top (s .engines) ∙ t .entries; none = ends.accepted-end top s (t .none) }
+end-accepted : {s : Ship} (top : Bool) → Accepted-record s → Accepted-record (record-end top s)
+end-accepted {s} top t = record { entries = ends.entries-end top (s .engines) ∙ t .entries; none = ends.accepted-end top s (t .none) }
 
 -- ── Demand 3: with ranges ───────────────────────────────────────────────────────────────────
 
 -- Every ship inside the ranges has its exact index between the bounds.
-pub inside : {s : Ship} {f : Figures ℕ} → Taken s → Inside (figures s) f → Enclosed (index f) (lower s // 1000000) (upper s // 1000000)
+pub inside : {s : Ship} {f : Figures ℕ} → Accepted-record s → Inside (figures s) f → Enclosed (index f) (lower s // 1000000) (upper s // 1000000)
 inside t i =
     rw (lower-is t, upper-is t)
     (inside-enclosed i (ranges-kept t .settled) (law.encloses false (ranges-kept t)) (law.encloses true (ranges-kept t)))
@@ -194,25 +195,25 @@ records-inside n =
     (ship-inside low high low-inside high-inside (narrowing-of.narrowed n), ship-inside high low high-inside low-inside (narrowing-of.narrowed n))
 
 -- There are such records: those of the most and of the least favourable ship.
-pub ends-narrower : {s : Ship} (top : Bool) → Taken s → Narrower-record s (record-end top s)
+pub ends-narrower : {s : Ship} (top : Bool) → Accepted-record s → Narrower-record s (record-end top s)
 ends-narrower {s} top t = narrowing-of.ends-narrower s (t .entries) (t .none) top
 
 -- The lower bound is the one of the most favourable ship, the upper bound of the least favourable.
-pub lower-of-most : {s s' : Ship} → Taken s → Taken s' → Stands-for (figures s') (most-favourable (figures s)) → lower s' ≡ lower s
+pub lower-of-most : {s s' : Ship} → Accepted-record s → Accepted-record s' → Stands-for (figures s') (most-favourable (figures s)) → lower s' ≡ lower s
 lower-of-most t t' one = lower-is t' ∙ ap lower-of (stands-most one) ∙ sym (lower-is t)
 
-pub upper-of-least : {s s' : Ship} → Taken s → Taken s' → Stands-for (figures s') (least-favourable (figures s)) → upper s' ≡ upper s
+pub upper-of-least : {s s' : Ship} → Accepted-record s → Accepted-record s' → Stands-for (figures s') (least-favourable (figures s)) → upper s' ≡ upper s
 upper-of-least t t' one = upper-is t' ∙ ap upper-of (stands-least one) ∙ sym (upper-is t)
 
 -- There are such records, and they are accepted: the one with every SFC and MCR low and the speed high, and the reverse.
-pub most-taken : {s : Ship} → Taken s → Taken (record-end false s) × Stands-for (figures (record-end false s)) (most-favourable (figures s))
-most-taken {s} t = (end-taken false t, ends.stands-most s)
+pub most-accepted : {s : Ship} → Accepted-record s → Accepted-record (record-end false s) × Stands-for (figures (record-end false s)) (most-favourable (figures s))
+most-accepted {s} t = (end-accepted false t, ends.stands-most s)
 
-pub least-taken : {s : Ship} → Taken s → Taken (record-end true s) × Stands-for (figures (record-end true s)) (least-favourable (figures s))
-least-taken {s} t = (end-taken true t, ends.stands-least s)
+pub least-accepted : {s : Ship} → Accepted-record s → Accepted-record (record-end true s) × Stands-for (figures (record-end true s)) (least-favourable (figures s))
+least-accepted {s} t = (end-accepted true t, ends.stands-least s)
 
 -- Narrowing moves neither outward.
-pub narrowing : {s s' : Ship} → Taken s → Taken s' → Narrowed (figures s) (figures s') → (lower s ≤ lower s') × (upper s' ≤ upper s)
+pub narrowing : {s s' : Ship} → Accepted-record s → Accepted-record s' → Narrowed (figures s) (figures s') → (lower s ≤ lower s') × (upper s' ≤ upper s)
 narrowing t t' n =
     rw (lower-is t, lower-is t', upper-is t, upper-is t')
     (law.narrowed-lower (ranges-kept t) (ranges-kept t') n, law.narrowed-upper (ranges-kept t) (ranges-kept t') n)
@@ -220,9 +221,9 @@ narrowing t t' n =
 -- ── The records that demands 2 and 3 speak of ───────────────────────────────────────────────
 
 -- Every value of the record's type with no refusal, and what is read from an accepted block.
-pub value-taken : (s : Ship) (vs : List Val) → shadow (row the-type .own s vs) → refusal-of s ≡ None → Taken s
-value-taken s vs g e = record { entries = four s vs g; none = e }
+pub value-accepted : (s : Ship) (vs : List Val) → shadow (row the-type .own s vs) → refusal-of s ≡ None → Accepted-record s
+value-accepted s vs g e = record { entries = four s vs g; none = e }
 
-pub block-taken : (b : List ℕ) → read-refusal b ≡ None → Taken (read-of b .ship)
+pub block-record-accepted : (b : List ℕ) → read-refusal b ≡ None → Accepted-record (read-of b .ship)
 unfolding read-of ship-in ship-from
-block-taken b e = record { entries = rw e; none = block-accepted b e }
+block-record-accepted b e = record { entries = rw e; none = block-accepted b e }

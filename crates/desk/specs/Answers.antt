@@ -5,7 +5,7 @@ use mathlib.Core.Path.{_≡_}
 use mathlib.Core.List.{List}
 use lib.Dec.{eqb}
 use lib.ListN.{length}
-use Rattle.exact.specs.Index.{if}
+use Rattle.formula.specs.Words.{if}
 use Rattle.ship.specs.Refusals.{number-of}
 use Rattle.ship.specs.Rules.{refusal-of}
 use Rattle.ship.specs.Figures.{figures}
@@ -20,10 +20,6 @@ use Rattle.desk.specs.declared.Answer.the-variants.{Bounds, Refused}
 -- A record's answer where its first refusal is r: the refusal, or where that is none the bounds.
 abbrev pub answer-by : Refusal → Ship → Answer
 answer-by r s = if (eqb (number-of r) 0) (Bounds (index-of (figures s))) (Refused r)
-
--- Where r is none, so is the record's own refusal.
-abbrev pub Vouched : Refusal → Ship → Type 0
-Vouched r s = r ≡ None → refusal-of s ≡ None
 
 unfoldable pub answer-of : Ship → Answer
 answer-of s = answer-by (refusal-of s) s
@@ -47,7 +43,7 @@ upper-in (Refused r) = 0
 -- ── An accepted record ──────────────────────────────────────────────────────────────────────
 
 -- Four engine entries, as every value of the record's type has them, and no refusal.
-pub record Taken (s : Ship) : Type 0 where
+pub record Accepted-record (s : Ship) : Type 0 where
   pub entries : length (s .engines) ≡ 4
   pub none : refusal-of s ≡ None
 

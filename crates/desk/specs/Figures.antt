@@ -1,11 +1,11 @@
 -- The figures worked by hand that are proved: one list of them, and what each says.
 -- Assumes nothing.
-use Prim.Native.Nat.{ℕ}
+use Prim.Native.Nat.{ℕ, _*_}
 use mathlib.Core.Path.{_≡_}
 use mathlib.Core.List.{List, [], _∷_}
-use Rattle.exact.specs.Formula.{_//_, Enclosed}
 use Rattle.exact.specs.Ship.{Deadweight, GrossTonnage, Kind, container}
-use Rattle.exact.specs.Index.{whole, P-ME, by-rule, Capacity, light-cargo, light-vehicles}
+use Rattle.formula.specs.Words.{whole}
+use Rattle.exact.specs.Index.{P-ME, by-rule, Capacity, light-cargo, light-vehicles}
 use Rattle.ship.specs.declared.Consumption.{Consumption}
 use Rattle.ship.specs.declared.Ship.{Ship}
 use Rattle.ship.specs.Ends.{just}
@@ -21,7 +21,7 @@ pub data Figure : Type 0 where
   P-ME-of : (mcr limit hundredths : ℕ) → Figure
   P-AE-of : (mcr thousandths : ℕ) → Figure
   Capacity-of : Kind → Deadweight → (tonnes : ℕ) → Figure
-  full-cargo : Deadweight → (volume : ℕ) → Figure
+  full-cargo : Deadweight → (cargo : ℕ) → Figure
   full-vehicles : Deadweight → GrossTonnage → Figure
 
 -- What it says.
@@ -29,8 +29,8 @@ abbrev pub Holds : Figure → Type 0
 Holds (bounds-of s lower upper) = answer-of s ≡ Bounds (record { lower = lower; upper = upper })
 Holds (P-ME-of mcr limit n) = P-ME mcr limit ≡ n
 Holds (P-AE-of mcr n) = by-rule mcr ≡ n
-Holds (Capacity-of kind dwt n) = Enclosed (Capacity kind dwt) (n // 1) (n // 1)
-Holds (full-cargo dwt volume) = light-cargo dwt volume ≡ whole 1
+Holds (Capacity-of kind dwt n) = Capacity kind dwt ≡ 100 * n
+Holds (full-cargo dwt cargo) = light-cargo dwt cargo ≡ whole 1
 Holds (full-vehicles dwt gross) = light-vehicles dwt gross ≡ whole 1
 
 abbrev pub All : List Figure → Type 0

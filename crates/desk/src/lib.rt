@@ -3,7 +3,8 @@ use index::Index;
 use ship::Refusal;
 use ship::Ship;
 ghost use mathlib.Core.Path.{_≡_};
-ghost use Rattle.desk.specs.Answers.{Vouched, answer-by, answer-of, answer-of-block};
+ghost use Rattle.ship.specs.Rules.{refusal-of};
+ghost use Rattle.desk.specs.Answers.{answer-by, answer-of, answer-of-block};
 
 // The two bounds of the index in millionths, or the first rule broken.
 pub enum Answer {
@@ -13,7 +14,7 @@ pub enum Answer {
 
 // The answer where the first refusal of a record is `own`.
 fn answered(own: Refusal, s: Ship) -> Answer
-    requires { ⌜ Vouched own s ⌝ }
+    requires { ⌜ (own ≡ Refusal.None → refusal-of s ≡ Refusal.None) ⌝ }
     ensures { λ r. ⌜ r ≡ answer-by own s ⌝ }
 {
     if ship::number(own) != 0 {

@@ -5,22 +5,24 @@ use mathlib.Core.Path.{_≡_, refl, ap}
 use mathlib.Core.Bool.{Bool, true, false}
 use native.Mathlib.Nat.{le-trans, mul-le-mul-left, suc-pred-eq-of-pos}
 use native.Mathlib.Omega.{arith}
+use lib.ListN.{length}
 use borrow.Author.Tests.{ltb-true, ltb-false}
 use lib.Dec.{ltb, lit≤, lit<}
-use Rattle.exact.specs.Formula.{_//_, _·_, Side, other, Formula, lit, _⊘_, _↑_, bounds, by-lit, by-quotient}
+use Rattle.formula.specs.Formula.{_//_, _·_, Side, other, Formula, lit, _⊘_, _↑_, bounds, by-lit, by-quotient}
 use Rattle.exact.specs.Ship.{Deadweight, GrossTonnage, Kind, bulk, gas, tanker, container, refrigerated, combination, vehicle, Particulars, Figures}
-use Rattle.exact.specs.Index.{whole, percent, if, light-cargo, light-vehicles, f-c}
+use Rattle.formula.specs.Words.{whole, percent, if}
+use Rattle.exact.specs.Index.{light-cargo, light-vehicles, f-c}
 use Rattle.exact.specs.Ranges.{Range}
-use Rattle.exact.proofs.Fractions.{_≈_, lies-refl, lies-≈}
-use Rattle.exact.proofs.Formulas.{enclosed-≈, enclosed-lit}
-use Rattle.exact.proofs.Powers.{inverse}
+use Rattle.formula.proofs.Fractions.{_≈_, lies-refl, lies-≈}
+use Rattle.formula.proofs.Formulas.{enclosed-≈, enclosed-lit}
+use Rattle.formula.proofs.Powers.{inverse}
 use Rattle.exact.proofs.Rules.{light-cargo-none, light-cargo-some, light-vehicles-none, light-vehicles-some}
-use Rattle.ship.specs.Figures.{kind-of}
-use Rattle.ship.specs.Accepted.{Within, Accepted}
-use Rattle.ship.proofs.Figured.{of-seven}
+use Rattle.ship.specs.Figures.{kinds, kind-of}
+use Rattle.ship.specs.Accepted.{Within, Accepted-figures}
+use Rattle.ship.proofs.Numbered.{by-number}
 use Rattle.power.specs.declared.Bounds.{Bounds}
-use Rattle.power.specs.Power.{Raisable, powerOf}
-use Rattle.factor.specs.Factor.{one, cargoOf, vehiclesOf, factorOf, Factored}
+use Rattle.power.specs.Power.{Raisable, power-of}
+use Rattle.factor.specs.Factor.{one, cargo-factor, vehicles-factor, factor-by, Factored}
 use Rattle.factor.proofs.Inverses.{turned, above-one}
 
 -- What a pair is to its formula: it encloses it, and is exactly 1 where the rule says 1, and nowhere else.
@@ -38,8 +40,8 @@ exactly =
     }
 
 -- A quotient is no literal, and the power of more than 1 isn't 1.
-power-follows : {T : Formula} {a b p q : ℕ} → Raisable a b p q → 0 < p → b < a → Factored (whole 1 ⊘ T ↑ (p // q)) (powerOf a b p q)
-    → Follows (whole 1 ⊘ T ↑ (p // q)) (powerOf a b p q)
+power-follows : {T : Formula} {a b p q : ℕ} → Raisable a b p q → 0 < p → b < a → Factored (whole 1 ⊘ T ↑ (p // q)) (power-of a b p q)
+    → Follows (whole 1 ⊘ T ↑ (p // q)) (power-of a b p q)
 power-follows given some more w =
     record {
       factored = w;
@@ -63,10 +65,10 @@ module _ {F T : Formula} (n limit a b p q m c : ℕ) (some : 1 ≤ b) (small : a
         fine = exponent .2;
       }
 
-  limited : Follows F (if (ltb n limit) (powerOf a b p q) one)
+  limited : Follows F (if (ltb n limit) (power-of a b p q) one)
   limited = go (ltb n limit) refl
     where
-      go : (t : Bool) → ltb n limit ≡ t → Follows F (if t (powerOf a b p q) one)
+      go : (t : Bool) → ltb n limit ≡ t → Follows F (if t (power-of a b p q) one)
       go true e =
           let h = ltb-true n limit e in
           let more = light h in
@@ -77,22 +79,22 @@ module _ {F T : Formula} (n limit a b p q m c : ℕ) (some : 1 ≤ b) (small : a
 
 -- ── Bulk carriers ───────────────────────────────────────────────────────────────────────────
 
-module _ (dwt : Deadweight) (volume : ℕ) (d : Within 100 600000 (dwt .tonnes)) (v : Within 100 1000000 volume) where
-  cargo-part : (p : 0 < volume) (s : Side) → bounds s (lit (dwt .tonnes // volume)) (inverse (volume // dwt .tonnes) p)
+module _ (dwt : Deadweight) (cargo : ℕ) (d : Within 100 600000 (dwt .tonnes)) (v : Within 100 1000000 cargo) where
+  cargo-part : (p : 0 < cargo) (s : Side) → bounds s (lit (dwt .tonnes // cargo)) (inverse (cargo // dwt .tonnes) p)
   cargo-part p s =
       let n : 0 < dwt .tonnes = omega (arith, d .least) in
-      let same : inverse (volume // dwt .tonnes) p ≈ dwt .tonnes // volume = record { cross = rw (suc-pred-eq-of-pos n, suc-pred-eq-of-pos p) } in
+      let same : inverse (cargo // dwt .tonnes) p ≈ dwt .tonnes // cargo = record { cross = rw (suc-pred-eq-of-pos n, suc-pred-eq-of-pos p) } in
       by-lit (lies-≈ s same)
 
-  cargo-follows : Follows (light-cargo dwt volume) (cargoOf dwt volume)
-  unfolding cargoOf
+  cargo-follows : Follows (light-cargo dwt cargo) (cargo-factor dwt cargo)
+  unfolding cargo-factor
   cargo-follows =
-      let p : 0 < volume = omega (arith, v .least) in
+      let p : 0 < cargo = omega (arith, v .least) in
       let some : 1 ≤ dwt .tonnes = omega (arith, d .least) in
-      let most : volume ≤ dwt .tonnes * 10000 = omega (arith, d .least, v .most) in
-      limited (dwt .tonnes * 100) (55 * volume) volume (dwt .tonnes) 15 100 10000 4
+      let most : cargo ≤ dwt .tonnes * 10000 = omega (arith, d .least, v .most) in
+      limited (dwt .tonnes * 100) (55 * cargo) cargo (dwt .tonnes) 15 100 10000 4
       some (omega (arith, v .most)) most (lit≤ tt) (lit< tt, lit< tt, lit< tt) (lit≤ tt) (lit≤ tt) (λ h. omega arith)
-      cargo-part (light-cargo-some dwt volume p) (light-cargo-none dwt volume p)
+      cargo-part (light-cargo-some dwt cargo p) (light-cargo-none dwt cargo p)
 
 -- ── Vehicle carriers ────────────────────────────────────────────────────────────────────────
 
@@ -104,8 +106,8 @@ module _ (dwt : Deadweight) (gross : GrossTonnage) (d : Within 100 600000 (dwt .
       let same : inverse ((35 * gross .gt) // (100 * dwt .tonnes)) p · 35 // 100 ≈ dwt .tonnes // gross .gt = record { cross = rw (suc-pred-eq-of-pos n, suc-pred-eq-of-pos m) (omega arith) } in
       by-quotient (by-lit (lies-refl s _)) (by-lit (lies-refl (other s) (35 // 100))) (lit< tt) (lies-≈ s same)
 
-  vehicles-follows : Follows (light-vehicles dwt gross) (vehiclesOf dwt gross)
-  unfolding vehiclesOf
+  vehicles-follows : Follows (light-vehicles dwt gross) (vehicles-factor dwt gross)
+  unfolding vehicles-factor
   vehicles-follows =
       let p : 0 < gross .gt = omega (arith, g .least) in
       let some : 1 ≤ 100 * dwt .tonnes = omega (arith, d .least) in
@@ -116,10 +118,10 @@ module _ (dwt : Deadweight) (gross : GrossTonnage) (d : Within 100 600000 (dwt .
 
 -- ── Every type ──────────────────────────────────────────────────────────────────────────────
 
-by-kind : (k : Kind) (s : Particulars) → Within 100 600000 (s .deadweight .tonnes) → (k ≡ vehicle → Within 100 400000 (s .gross .gt)) → (k ≡ bulk → Within 100 1000000 (s .volume))
-    → Follows (f-c k s) (factorOf k s)
-unfolding f-c factorOf
-by-kind bulk s d g v = cargo-follows (s .deadweight) (s .volume) d (v refl)
+by-kind : (k : Kind) (s : Particulars) → Within 100 600000 (s .deadweight .tonnes) → (k ≡ vehicle → Within 100 400000 (s .gross .gt)) → (k ≡ bulk → Within 100 1000000 (s .cargo))
+    → Follows (f-c k s) (factor-by k s)
+unfolding f-c factor-by
+by-kind bulk s d g v = cargo-follows (s .deadweight) (s .cargo) d (v refl)
 by-kind vehicle s d g v = vehicles-follows (s .deadweight) (s .gross) d (g refl)
 by-kind gas s d g v = exactly
 by-kind tanker s d g v = exactly
@@ -127,32 +129,27 @@ by-kind container s d g v = exactly
 by-kind refrigerated s d g v = exactly
 by-kind combination s d g v = exactly
 
-pub factor-law : {f : Figures Range} → Accepted f → Follows (f-c (f .ship .kind) (f .ship)) (factorOf (f .ship .kind) (f .ship))
-factor-law {f} a = by-kind (f .ship .kind) (f .ship) (a .deadweight) (a .gross) (a .volume)
+pub factor-law : {f : Figures Range} → Accepted-figures f → Follows (f-c (f .ship .kind) (f .ship)) (factor-by (f .ship .kind) (f .ship))
+factor-law {f} a = by-kind (f .ship .kind) (f .ship) (a .deadweight) (a .gross) (a .cargo)
 
 -- ── Types by number ─────────────────────────────────────────────────────────────────────────
 
 module _ (s : Particulars) (k : ℕ) where
-  pub of-bulk : k ≡ 1 → cargoOf (s .deadweight) (s .volume) ≡ factorOf (kind-of k) s
-  unfolding factorOf
+  pub of-bulk : k ≡ 1 → cargo-factor (s .deadweight) (s .cargo) ≡ factor-by (kind-of k) s
+  unfolding factor-by
   of-bulk e = rw e
 
-  pub of-vehicle : k ≡ 7 → vehiclesOf (s .deadweight) (s .gross) ≡ factorOf (kind-of k) s
-  unfolding factorOf
+  pub of-vehicle : k ≡ 7 → vehicles-factor (s .deadweight) (s .gross) ≡ factor-by (kind-of k) s
+  unfolding factor-by
   of-vehicle e = rw e
 
-  pub of-others : Within 2 6 k → one ≡ factorOf (kind-of k) s
-  unfolding factorOf
+  pub of-others : Within 2 6 k → one ≡ factor-by (kind-of k) s
+  unfolding factor-by
   of-others w =
-      of-seven
-      (λ k. Within 2 6 k → one ≡ factorOf (kind-of k) s)
-      (λ h. absurd (omega (arith, h .least)))
-      (λ h. refl)
-      (λ h. refl)
-      (λ h. refl)
-      (λ h. refl)
-      (λ h. refl)
-      (λ h. absurd (omega (arith, h .most)))
+      by-number
+      (λ k. Within 2 6 k → one ≡ factor-by (kind-of k) s)
+      (length kinds)
+      (((((((tt, λ h. absurd (omega (arith, h .least))), λ h. refl), λ h. refl), λ h. refl), λ h. refl), λ h. refl), λ h. absurd (omega (arith, h .most)))
       k
       (omega arith)
       w

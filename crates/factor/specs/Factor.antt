@@ -3,34 +3,34 @@
 -- Assumes nothing.
 use Prim.Native.Nat.{ℕ, _+_, _*_, _^_, _≤_}
 use lib.Dec.{ltb}
-use Rattle.exact.specs.Formula.{Formula, _//_, Enclosed}
+use Rattle.formula.specs.Formula.{Formula, _//_, Enclosed}
 use Rattle.exact.specs.Ship.{Deadweight, GrossTonnage, Kind, bulk, gas, tanker, container, refrigerated, combination, vehicle, Particulars}
-use Rattle.exact.specs.Index.{if}
+use Rattle.formula.specs.Words.{if}
 use Rattle.power.specs.declared.Bounds.{Bounds}
 use Rattle.power.specs.Numbers.{unit}
-use Rattle.power.specs.Power.{powerOf}
+use Rattle.power.specs.Power.{power-of}
 
 -- Exactly 1.
 abbrev pub one : Bounds
 one = record { lo = unit; hi = unit }
 
 -- A bulk carrier's: R to the power -0.15 is 1/R to the power 0.15, and the base of a power is at least 1.
-unfoldable pub cargoOf : Deadweight → ℕ → Bounds
-cargoOf dwt volume = if (ltb (dwt .tonnes * 100) (55 * volume)) (powerOf volume (dwt .tonnes) 15 100) one
+unfoldable pub cargo-factor : Deadweight → ℕ → Bounds
+cargo-factor dwt cargo = if (ltb (dwt .tonnes * 100) (55 * cargo)) (power-of cargo (dwt .tonnes) 15 100) one
 
 -- A vehicle carrier's, inverted likewise.
-unfoldable pub vehiclesOf : Deadweight → GrossTonnage → Bounds
-vehiclesOf dwt gross = if (ltb (dwt .tonnes * 100) (35 * gross .gt)) (powerOf (35 * gross .gt) (100 * dwt .tonnes) 8 10) one
+unfoldable pub vehicles-factor : Deadweight → GrossTonnage → Bounds
+vehicles-factor dwt gross = if (ltb (dwt .tonnes * 100) (35 * gross .gt)) (power-of (35 * gross .gt) (100 * dwt .tonnes) 8 10) one
 
 -- The lower and the upper end, in units of 2^-30. Their last digits are a matter of this definition, and not of the rules.
-unfoldable pub factorOf : Kind → Particulars → Bounds
-factorOf bulk s = cargoOf (s .deadweight) (s .volume)
-factorOf vehicle s = vehiclesOf (s .deadweight) (s .gross)
-factorOf gas s = one
-factorOf tanker s = one
-factorOf container s = one
-factorOf refrigerated s = one
-factorOf combination s = one
+unfoldable pub factor-by : Kind → Particulars → Bounds
+factor-by bulk s = cargo-factor (s .deadweight) (s .cargo)
+factor-by vehicle s = vehicles-factor (s .deadweight) (s .gross)
+factor-by gas s = one
+factor-by tanker s = one
+factor-by container s = one
+factor-by refrigerated s = one
+factor-by combination s = one
 
 -- What may be used of it: the two ends enclose the formula, and differ by at most 2^-27 of the lower.
 pub record Factored (e : Formula) (r : Bounds) : Type 0 where

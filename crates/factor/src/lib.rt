@@ -8,7 +8,7 @@ ghost use Rattle.ship.specs.Figures.{deadweight-of, figures};
 ghost use Rattle.ship.specs.Accepted.{Within};
 ghost use Rattle.ship.specs.Rules.{refusal-of};
 ghost use Rattle.ship.specs.declared.Refusal.the-variants as refusal;
-ghost use Rattle.factor.specs.Factor.{one, cargoOf, vehiclesOf, factorOf};
+ghost use Rattle.factor.specs.Factor.{one, cargo-factor, vehicles-factor, factor-by};
 
 fn exactly_one() -> Bounds
     ensures { λ r. ⌜ r ≡ one ⌝ }
@@ -20,13 +20,13 @@ fn exactly_one() -> Bounds
 }
 
 // A bulk carrier's: R to the power -0.15, where R = deadweight / volume is below 0.55.
-fn light_cargo(deadweight: Deadweight, volume: u64) -> Bounds
-    requires { ⌜ Within 100 600000 (deadweight .tonnes) × Within 100 1000000 volume ⌝ }
-    ensures { λ r. ⌜ r ≡ cargoOf (deadweight-of deadweight) volume ⌝ }
+fn light_cargo(deadweight: Deadweight, cargo: u64) -> Bounds
+    requires { ⌜ Within 100 600000 (deadweight .tonnes) × Within 100 1000000 cargo ⌝ }
+    ensures { λ r. ⌜ r ≡ cargo-factor (deadweight-of deadweight) cargo ⌝ }
 {
     let t = deadweight.tonnes;
-    if t * 100 < 55 * volume {
-        power::power(volume, t, 15, 100)
+    if t * 100 < 55 * cargo {
+        power::power(cargo, t, 15, 100)
     } else {
         exactly_one()
     }
@@ -35,7 +35,7 @@ fn light_cargo(deadweight: Deadweight, volume: u64) -> Bounds
 // A vehicle carrier's: (R / 0.35) to the power -0.8, where R = deadweight / gross tonnage is below 0.35.
 fn light_vehicles(deadweight: Deadweight, gross: GrossTonnage) -> Bounds
     requires { ⌜ Within 100 600000 (deadweight .tonnes) × Within 100 400000 (gross .gt) ⌝ }
-    ensures { λ r. ⌜ r ≡ vehiclesOf (deadweight-of deadweight) (record { gt = gross .gt }) ⌝ }
+    ensures { λ r. ⌜ r ≡ vehicles-factor (deadweight-of deadweight) (record { gt = gross .gt }) ⌝ }
 {
     let t = deadweight.tonnes;
     let g = gross.gt;
@@ -49,14 +49,14 @@ fn light_vehicles(deadweight: Deadweight, gross: GrossTonnage) -> Bounds
 // f_c of a record that rules 4 to 16 leave.
 pub fn factor(s: Ship) -> Bounds
     requires { ⌜ refusal-of s ≡ refusal.None ⌝ }
-    ensures { λ r. ⌜ r ≡ factorOf (figures s .ship .kind) (figures s .ship) ⌝ }
+    ensures { λ r. ⌜ r ≡ factor-by (figures s .ship .kind) (figures s .ship) ⌝ }
 {
     let p = s.particulars;
     let kind = p.kind;
     let deadweight = p.deadweight;
     let gross = p.gross;
     match kind {
-        1 => light_cargo(deadweight, p.volume),
+        1 => light_cargo(deadweight, p.cargo),
         2..=6 => exactly_one(),
         7 => light_vehicles(deadweight, gross),
         _ => Bounds { lo: 0, hi: 0 },

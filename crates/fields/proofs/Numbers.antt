@@ -2,15 +2,15 @@
 -- Assumes nothing.
 use Prim.Native.Nat.{ℕ, zero, suc, _+_, _*_, _/_, _%_, _^_, _-_, _≤_, _<_}
 use mathlib.Core.Path.{_≡_, refl, sym, ap, ap₂, _∙_}
-use mathlib.Core.List.{List, [], _∷_, _++_, append-nil}
+use mathlib.Core.List.{List, [], _∷_, _++_, append-assoc, append-nil}
 use mathlib.Core.Bool.{Bool, true, false, _&&_}
-use native.Mathlib.Nat.{pow-succ', pow-le-pow-right, zero-add}
+use native.Mathlib.Nat.{pow-succ', pow-le-pow-right}
 use native.Mathlib.Numerals.{add-one}
 use native.Mathlib.Omega.{arith}
 use borrow.Author.Tests.{ne-eqb}
 use lib.Dec.{eqb, lit<}
 use lib.ListN.{length, getD, take, drop, set, length-drop, drop-of-length-le}
-use lib.Seq.{drop-cons, length-take-le, paste-suc, take-all}
+use lib.Seq.{drop-cons, length-take-le, take-suc-set, take-all}
 use Rattle.fields.specs.Numbers.{bytes-of, value-of, number-at, Bytes}
 
 pub bytes-of-length : (w n : ℕ) → length (bytes-of w n) ≡ w
@@ -97,8 +97,7 @@ module _ (b : List ℕ) (at w left n : ℕ) (more : 0 < left) (h : left ≤ w) (
   number-again =
       let p : at + (left - 1) + 1 ≡ at + left = omega arith in
       let q : w - (left - 1) ≡ suc (w - left) = omega arith in
-      let s : number-at b (at + (left - 1)) (suc (w - left)) ≡ getD b (at + (left - 1)) 0 + 256 * number-at b (at + left) (w - left) = rw p at (number-step b (at + (left - 1)) (w - left) (omega arith)) in
-      rw q (omega arith)
+      rw q (omega (arith, rw p at (number-step b (at + (left - 1)) (w - left) (omega arith))))
 
   pub number-room : Bytes b → w ≤ 8 → n < 2 ^ 56
   number-room bs m = rw e (number-small b (at + left) (w - left) bs (omega arith) (omega arith))
@@ -133,35 +132,17 @@ zero-end z xs i h = rw (drop-of-length-le xs h) (and-true z)
 
 -- ── A number stored byte by byte ────────────────────────────────────────────────────────────
 
-bytes-suc : (w n : ℕ) → bytes-of (suc w) n ≡ n % 256 ∷ bytes-of w (n / 256)
-unfolding bytes-of
-bytes-suc w n = refl
+-- What stands as far as i and what is ahead are the whole number's w bytes.
+module _ (bytes : List ℕ) (w v rest i : ℕ) (e : bytes-of w v ≡ take i bytes ++ bytes-of (w - i) rest) where
+  pub put-again : i < length bytes → i < w
+      → bytes-of w v ≡ take (i + 1) (set bytes i (rest % 256)) ++ bytes-of (w - (i + 1)) (rest / 256)
+  unfolding bytes-of
+  put-again h m =
+      let k : w - i ≡ suc (w - (i + 1)) = omega arith in
+      e ∙ rw (k, add-one i, take-suc-set bytes i (rest % 256) h) (sym (append-assoc (take i bytes) (rest % 256 ∷ []) _))
 
-module _ (l : List ℕ) (i k rest : ℕ) (h : i < length l) (e : drop i l ≡ bytes-of (suc k) rest) where
-  next-byte : getD l i 0 ≡ rest % 256
-  next-byte = cc (drop-cons l i 0 h, bytes-suc k rest)
-
-  left-over : drop (i + 1) l ≡ bytes-of k (rest / 256)
-  left-over = rw add-one (cc (drop-cons l i 0 h, bytes-suc k rest))
-
--- A store takes the first i elements of s over d's to the first i + 1.
-over-step : (d s : List ℕ) (i : ℕ) → i < length d → i < length s
-    → set (take i s ++ drop i d) i (getD s i 0) ≡ take (i + 1) s ++ drop (i + 1) d
-over-step d s i hd hs = rw add-one (simp zero-add at (paste-suc d 0 s i 0 (simp zero-add hd) hs))
-
--- A turn of the loop that stores a number's bytes over d: the byte, and what is left of the number.
-pub put-again : (d bytes : List ℕ) (v rest i : ℕ) → i < length d → bytes ≡ take i (bytes-of (length d) v) ++ drop i d
-    → drop i (bytes-of (length d) v) ≡ bytes-of (length d - i) rest
-    → (set bytes i (rest % 256) ≡ take (i + 1) (bytes-of (length d) v) ++ drop (i + 1) d)
-    × (drop (i + 1) (bytes-of (length d) v) ≡ bytes-of (length d - (i + 1)) (rest / 256))
-put-again d bytes v rest i h e f =
-    let l = bytes-of (length d) v in
-    let hl : i < length l = rw (bytes-of-length (length d) v) h in
-    let k : length d - i ≡ suc (length d - (i + 1)) = omega arith in
-    let g : drop i l ≡ bytes-of (suc (length d - (i + 1))) rest = rw k at f in
-    (rw (e, ← next-byte l i (length d - (i + 1)) rest hl g) (over-step d l i h hl), left-over l i (length d - (i + 1)) rest hl g)
-
-pub put-end : (d bytes : List ℕ) (v i : ℕ) → length d ≤ i → bytes ≡ take i (bytes-of (length d) v) ++ drop i d → bytes ≡ bytes-of (length d) v
-put-end d bytes v i h e =
-    let hl : length (bytes-of (length d) v) ≤ i = rw (bytes-of-length (length d) v) h in
-    e ∙ rw (take-all i (bytes-of (length d) v) hl, drop-of-length-le d h) (append-nil (bytes-of (length d) v))
+  pub put-end : length bytes ≤ i → w ≤ i → bytes ≡ bytes-of w v
+  unfolding bytes-of
+  put-end h m =
+      let k : w - i ≡ 0 = omega arith in
+      sym (e ∙ rw (k, append-nil (take i bytes)) (take-all i bytes h))

@@ -1,15 +1,17 @@
 -- Laws of runs of fields, once over the list of widths.
 -- Assumes nothing.
-use Prim.Native.Nat.{ℕ, zero, suc, _+_, _^_, _≤_, _<_}
+use Prim.Native.Nat.{ℕ, _+_, _-_, _^_, _≤_, _<_}
 use mathlib.Core.Path.{_≡_, refl, sym, ap, ap₂, _∙_}
-use mathlib.Core.List.{List, [], _∷_, _++_, append-assoc}
+use mathlib.Core.List.{List, [], _∷_, _++_, append-assoc, append-nil}
 use native.Mathlib.Numerals.{add-one}
 use native.Mathlib.Omega.{arith}
+use borrow.Rule.Slice.PartMut.{midOf, putMid}
 use lib.ListN.{length, getD, take, drop, length-append, drop-of-length-le}
-use lib.Seq.{drop-cons, take-at, drop-at, take-add, drop-drop, take-take}
+use lib.Seq.{drop-cons, take-at, drop-at, take-add, take-all, drop-drop}
 use Rattle.fields.specs.Numbers.{bytes-of, value-of, number-at, Bytes}
-use Rattle.fields.specs.Runs.{pack, numbers-at, total, widths-of, packed}
+use Rattle.fields.specs.Runs.{pack, numbers-at, total, widths-of, numbers-of, packed}
 use Rattle.fields.proofs.Numbers.{bytes-of-length, value-bytes, bytes-number}
+use Rattle.fields.proofs.Parts.{taken, next-part, bytes-part}
 
 -- ── A run, field by field ───────────────────────────────────────────────────────────────────
 
@@ -17,20 +19,10 @@ pub total-drop : (ws : List ℕ) (i : ℕ) → i < length ws → total (drop i w
 unfolding total
 total-drop ws i h = rw (drop-cons ws i 0, add-one)
 
-pub total-end : (ws : List ℕ) (i : ℕ) → length ws ≤ i → total (drop i ws) ≡ 0
-unfolding total
-total-end ws i h = rw (drop-of-length-le ws h)
-
 pack-drop : (ws vs : List ℕ) (i : ℕ) → i < length ws → i < length vs
     → pack (drop i ws) (drop i vs) ≡ bytes-of (getD ws i 0) (getD vs i 0) ++ pack (drop (i + 1) ws) (drop (i + 1) vs)
 unfolding pack
 pack-drop ws vs i h k = rw (drop-cons ws i 0 h, drop-cons vs i 0 k, add-one)
-
-pub pack-length : (ws vs : List ℕ) → length ws ≡ length vs → length (pack ws vs) ≡ total ws
-unfolding pack total
-pack-length [] vs h = refl
-pack-length (w ∷ ws) [] h = absurd (omega arith)
-pack-length (w ∷ ws) (v ∷ vs) h = rw (length-append (bytes-of w v) (pack ws vs), bytes-of-length w v, pack-length ws vs (omega arith))
 
 pub packed-append : (fs gs : List (ℕ × ℕ)) → packed (fs ++ gs) ≡ packed fs ++ packed gs
 unfolding pack
@@ -42,35 +34,49 @@ unfolding pack total
 packed-length [] = refl
 packed-length (f ∷ fs) = rw (length-append (bytes-of (f .0) (f .1)) (packed fs), bytes-of-length (f .0) (f .1), packed-length fs)
 
--- The next field of a run from at.
-module _ (ws vs : List ℕ) (at i : ℕ) (h : i < length ws) (k : i < length vs)
-    (f : drop at (pack ws vs) ≡ pack (drop i ws) (drop i vs)) where
-  pub next-field : take (getD ws i 0) (drop at (pack ws vs)) ≡ bytes-of (getD ws i 0) (getD vs i 0)
-  next-field = rw (f, pack-drop ws vs i h k) (take-at (bytes-of (getD ws i 0) (getD vs i 0)) _ _ (bytes-of-length (getD ws i 0) (getD vs i 0)))
+-- A run stored field by field: what stands as far as at and what is ahead are the whole run.
+module _ (ws vs part : List ℕ) (at i : ℕ) (e : pack ws vs ≡ take at part ++ pack (drop i ws) (drop i vs)) where
+  pub run-again : (y : List ℕ) → i < length ws → i < length vs → at + getD ws i 0 ≤ length part
+      → y ≡ bytes-of (length (midOf at (at + getD ws i 0 - at) part)) (getD vs i 0)
+      → pack ws vs ≡ take (at + getD ws i 0) (putMid at (at + getD ws i 0 - at) part y) ++ pack (drop (i + 1) ws) (drop (i + 1) vs)
+  run-again y h k room f =
+      let w = getD ws i 0 in
+      let f′ : y ≡ bytes-of w (getD vs i 0) = f ∙ bytes-part at w (getD vs i 0) part room in
+      let n : length y ≡ w = ap length f′ ∙ bytes-of-length w (getD vs i 0) in
+      e ∙ rw (pack-drop ws vs i h k, taken part y at w room n, f′) (sym (append-assoc (take at part) (bytes-of w (getD vs i 0)) _))
 
-  pub next-run : drop (at + getD ws i 0) (pack ws vs) ≡ pack (drop (i + 1) ws) (drop (i + 1) vs)
-  next-run = rw (← drop-drop (getD ws i 0) at (pack ws vs), f, pack-drop ws vs i h k) (drop-at (bytes-of (getD ws i 0) (getD vs i 0)) _ _ (bytes-of-length (getD ws i 0) (getD vs i 0)))
+  pub run-end : length ws ≤ i → at + total (drop i ws) ≡ length part → part ≡ pack ws vs
+  unfolding total pack
+  run-end h n =
+      let z = drop-of-length-le ws {i = i} h in
+      let m : at + 0 ≡ length part = rw z at n in
+      sym (e ∙ rw (z, append-nil (take at part)) (take-all at part (omega arith)))
 
 -- ── There and back ──────────────────────────────────────────────────────────────────────────
 
--- Each number fits its width.
-abbrev pub Fit : List ℕ → List ℕ → Type 0
-Fit [] [] = Unit {0}
-Fit [] (v ∷ vs) = ⊥
-Fit (w ∷ ws) [] = ⊥
-Fit (w ∷ ws) (v ∷ vs) = (v < 256 ^ w) × Fit ws vs
+-- Each number fits its width, field by field.
+pub data Fit : List (ℕ × ℕ) → Type 0 where
+  none : Fit []
+  more : {w n : ℕ} {fs : List (ℕ × ℕ)} → n < 256 ^ w → Fit fs → Fit ((w, n) ∷ fs)
+
+infixr 67 _&_
+pub _&_ : {w n : ℕ} {fs : List (ℕ × ℕ)} → n < 256 ^ w → Fit fs → Fit ((w, n) ∷ fs)
+h & hs = more h hs
+
+pub fit-append : {fs gs : List (ℕ × ℕ)} → Fit fs → Fit gs → Fit (fs ++ gs)
+fit-append none k = k
+fit-append (more h hs) k = more h (fit-append hs k)
 
 -- What was packed is read.
-pub unpack : (ws vs b q : List ℕ) (at : ℕ) → Fit ws vs → drop at b ≡ pack ws vs ++ q → numbers-at b at ws ≡ vs
+pub unpack : {fs : List (ℕ × ℕ)} (b q : List ℕ) (at : ℕ) → Fit fs → drop at b ≡ packed fs ++ q → numbers-at b at (widths-of fs) ≡ numbers-of fs
 unfolding pack number-at numbers-at
-unpack [] [] b q at h e = refl
-unpack [] (v ∷ vs) b q at h e = absurd h
-unpack (w ∷ ws) [] b q at h e = absurd h
-unpack (w ∷ ws) (v ∷ vs) b q at h e =
-    let e′ : drop at b ≡ bytes-of w v ++ (pack ws vs ++ q) = e ∙ append-assoc (bytes-of w v) (pack ws vs) q in
-    let n : value-of (take w (drop at b)) ≡ v = rw (e′, take-at (bytes-of w v) (pack ws vs ++ q) w (bytes-of-length w v)) (value-bytes w v (h .0)) in
-    let r : drop (at + w) b ≡ pack ws vs ++ q = rw (← drop-drop w at b, e′) (drop-at (bytes-of w v) (pack ws vs ++ q) w (bytes-of-length w v)) in
-    ap₂ {C = List ℕ} (λ x xs. x ∷ xs) n (unpack ws vs b q (at + w) (h .1) r)
+unpack b q at none e = refl
+unpack b q at (more {w} {n} {fs} h hs) e =
+    let rest = packed fs ++ q in
+    let e′ : drop at b ≡ bytes-of w n ++ rest = e ∙ append-assoc (bytes-of w n) (packed fs) q in
+    let v : value-of (take w (drop at b)) ≡ n = rw (e′, take-at (bytes-of w n) rest w (bytes-of-length w n)) (value-bytes w n h) in
+    let r : drop (at + w) b ≡ rest = rw (← drop-drop w at b, e′) (drop-at (bytes-of w n) rest w (bytes-of-length w n)) in
+    ap₂ {C = List ℕ} (λ x xs. x ∷ xs) v (unpack b q (at + w) hs r)
 
 -- What is read is packed to the same bytes.
 pub repack : (ws b : List ℕ) (at : ℕ) → Bytes b → at + total ws ≤ length b → pack ws (numbers-at b at ws) ≡ take (total ws) (drop at b)
@@ -84,25 +90,14 @@ repack (w ∷ ws) b at h k =
       drop-drop w at b,
     )
 
--- ── A run inside a part ─────────────────────────────────────────────────────────────────────
+-- ── Runs written in turn ────────────────────────────────────────────────────────────────────
 
-part-number : (b : List ℕ) (a k at w : ℕ) → at + w ≤ k → number-at (take k (drop a b)) at w ≡ number-at b (a + at) w
-unfolding number-at
-part-number b a k at w h =
-    let e : take w (drop at (take k (drop a b))) ≡ take w (drop (a + at) b) = cut (drop a b) k at w h ∙ rw (drop-drop at a b) in
-    ap value-of e
-  where
-    cut : (l : List ℕ) (k at w : ℕ) → at + w ≤ k → take w (drop at (take k l)) ≡ take w (drop at l)
-    cut l k zero w h = take-take w k l (omega arith)
-    cut [] zero (suc at) w h = absurd (omega arith)
-    cut (x ∷ l) zero (suc at) w h = absurd (omega arith)
-    cut [] (suc k) (suc at) w h = refl
-    cut (x ∷ l) (suc k) (suc at) w h = cut l k at w (omega arith)
+-- Where part is a run and then d, and its next w elements become another run, part is both runs and then d.
+pub then-run : (fs gs : List (ℕ × ℕ)) (d : List ℕ) (at w : ℕ) {part ys : List ℕ} → total (widths-of fs) ≡ at → part ≡ packed fs ++ drop at d
+    → ys ≡ packed gs → putMid at (at + w - at) part ys ≡ packed (fs ++ gs) ++ drop (at + w) d
+then-run fs gs d at w {part} {ys} n e y = rw (packed-append fs gs, ← y) (next-part (packed fs) d part ys at w (packed-length fs ∙ n) e)
 
--- What is read in a part is what is read in the whole.
-pub part-numbers : (b : List ℕ) (a k : ℕ) (ws : List ℕ) (at : ℕ) → at + total ws ≤ k → numbers-at (take k (drop a b)) at ws ≡ numbers-at b (a + at) ws
-unfolding numbers-at total
-part-numbers b a k [] at h = refl
-part-numbers b a k (w ∷ ws) at h =
-    let e : a + (at + w) ≡ a + at + w = omega arith in
-    ap₂ {C = List ℕ} (λ x xs. x ∷ xs) (part-number b a k at w (omega arith)) (rw e at (part-numbers b a k ws (at + w) (omega arith)))
+-- A run over a part of its own length.
+pub run-written : (fs : List (ℕ × ℕ)) (d : List ℕ) {y : List ℕ} → length d ≡ total (widths-of fs) → y ≡ packed fs ++ drop (total (widths-of fs)) d
+    → y ≡ packed fs
+run-written fs d n e = e ∙ rw (drop-of-length-le d {i = total (widths-of fs)} (omega arith)) (append-nil (packed fs))

@@ -1,9 +1,8 @@
 // Bytes of a record: little-endian numbers of any width, runs of them, the two check sums, and zeros.
 
 ghost use mathlib.Core.Path.{_≡_};
-ghost use mathlib.Core.List.{_++_};
 ghost use Prim.Native.Nat.{_+_, _≤_};
-ghost use lib.ListN.{length, drop};
+ghost use lib.ListN.{length};
 ghost use lib.Dec.{eqb};
 ghost use Rattle.fields.specs.Numbers.{bytes-of, value-of, number-at};
 ghost use Rattle.fields.specs.Runs.{total, pack};
@@ -72,12 +71,12 @@ pub fn put(bytes: &mut [u8], number: u64)
     }
 }
 
-// The first bytes become the numbers', each at its width, one after the other; the others stay. The block's table has a width for each
-// number, and rule 17 a part for them all.
+// The bytes become the numbers', each at its width, one after the other. The block's table has a width for each number, and a part of
+// just their length.
 pub fn put_run(part: &mut [u8], widths: &[usize], numbers: &[u64])
     requires { ⌜ length (now widths) ≡ length (now numbers) ⌝ }
-    requires { ⌜ total (now widths) ≤ length (now part) ⌝ }
-    ensures { λ r. ⌜ now (part .exit) ≡ pack (now (widths .entry)) (now (numbers .entry)) ++ drop (total (now (widths .entry))) (now (part .entry)) ⌝ }
+    requires { ⌜ total (now widths) ≡ length (now part) ⌝ }
+    ensures { λ r. ⌜ now (part .exit) ≡ pack (now (widths .entry)) (now (numbers .entry)) ⌝ }
 {
     let mut at = 0;
     let mut i = 0;

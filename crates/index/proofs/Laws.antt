@@ -3,29 +3,35 @@ use mathlib.Core.Path.{_≡_, refl, ap, ap₂}
 use mathlib.Core.Bool.{Bool, true, false, not}
 use mathlib.Core.List.{List, [], _∷_}
 use Prim.Native.Nat.{ℕ, _+_, _*_, _^_, _≤_, _<_}
-use native.Mathlib.Nat.{mul-pos, mul-le-mul, mul-le-mul-left, mul-le-mul-right, suc-pred-eq-of-pos, le-trans, le-refl}
+use native.Mathlib.Nat.{mul-pos, mul-le-mul, mul-le-mul-left, mul-le-mul-right, suc-pred-eq-of-pos, le-trans, le-refl, lt-of-lt-of-le}
 use native.Mathlib.Omega.{arith}
 use lib.Dec.{lit<}
-use Rattle.exact.specs.Formula.{Frac, _//_, _≼_, _·_, Side, below, above, other, lies, at-most, at-least, bounds, by-product, by-quotient, Enclosed}
+use Rattle.formula.specs.Formula.{Frac, _//_, _≼_, _·_, Side, below, above, other, lies, at-most, at-least, Formula, bounds, by-product, by-quotient, Enclosed}
 use Rattle.exact.specs.Ship.{Deadweight, Kind, Engine, Method, declared, trial, design-trial, statistical, Figures}
 use Rattle.exact.specs.Ranges.{Range, low, high, engines-at, method-at, ship-at, Single, Settled, alike, Inside, Narrowed, most-favourable, least-favourable}
-use Rattle.exact.specs.Index.{whole, P-ME, sum-P-ME, f-c, f-m, Capacity, speed, emissions, transport, index}
-use Rattle.exact.proofs.Fractions.{_≈_, lies-refl, lies-≈}
-use Rattle.exact.proofs.Formulas.{consistent}
+use Rattle.formula.specs.Words.{whole}
+use Rattle.exact.specs.Index.{P-ME, sum-P-ME, f-c, Capacity, speed, emissions, load, transport, index}
+use Rattle.formula.proofs.Fractions.{_≈_, lies-refl, lies-≈}
+use Rattle.formula.proofs.Formulas.{consistent}
 use Rattle.exact.proofs.Favour.{low-single, high-single, method-end, ship-inside, low-inside, high-inside}
 use Rattle.number.proofs.Divisions.{floor-is, ceil-is, floor-greatest, ceil-least}
+use Rattle.power.specs.declared.Bounds.{Bounds}
 use Rattle.power.specs.Numbers.{unit}
-use Rattle.ship.specs.Accepted.{Within, hundredths, Sailed, Accepted}
-use Rattle.plant.specs.Plant.{end, at-end, N, ice-factor}
-use Rattle.plant.proofs.Values.{emissions-exact, capacity-exact, ice-exact}
-use Rattle.plant.proofs.Growth.{end-within, N-within, N-inside, capacity-within}
-use Rattle.factor.specs.Factor.{one}
+use Rattle.ship.specs.Accepted.{Within, Sailed, Accepted-figures}
+use Rattle.plant.specs.Plant.{end, at-end, N, load-of}
+use Rattle.plant.proofs.Values.{emissions-exact, load-exact}
+use Rattle.plant.proofs.Growth.{end-within, N-within, N-inside, load-within}
 use Rattle.factor.proofs.Laws.{Follows, factor-law}
-use Rattle.speed.specs.Speeds.{exactly, Fitting, Admitted, speedOf, Speed}
+use Rattle.speed.specs.Speeds.{exactly, Fitting, Accepted-speed, speed-by, Speed}
 use Rattle.speed.proofs.Laws.{declared-exact, speed-law}
 use Rattle.speed.proofs.Sides.{at}
-use Rattle.index.specs.Attained.{millionths-down, millionths-up, Sized, load, speed-of, factor-of, lower-of, upper-of}
+use Rattle.index.specs.Attained.{millionths-down, millionths-up, Sized, emitted, Emission, speed-of, factor-of, lower-of, upper-of}
 use Rattle.index.proofs.Rounding.{lower-floor, upper-ceil, upper-small, upper-some, lower-order, upper-order, bounds-near}
+
+-- An enclosure on one side.
+side : {e : Formula} (b : Bounds) (k : ℕ) → Enclosed e (b .lo // k) (b .hi // k) → (s : Side) → bounds s e (at s b // k)
+side b k h below = h .low
+side b k h above = h .high
 
 -- ── What the rules leave of the speed ───────────────────────────────────────────────────────
 
@@ -36,7 +42,7 @@ same-power top [] s = refl
 same-power false (e ∷ es) s = refl
 same-power true (e ∷ es) s = ap₂ (λ x y. P-ME x (e .limit) + y) (s .0) (same-power true es (s .1))
 
-module _ (top : Bool) {r : Figures Range} (a : Accepted r) where
+module _ (top : Bool) {r : Figures Range} (a : Accepted-figures r) where
   power-within : Within 7500 36000000 (sum-P-ME (engines-at (end top) (r .engines)))
   power-within = go top
     where
@@ -53,214 +59,204 @@ module _ (top : Bool) {r : Figures Range} (a : Accepted r) where
       rw (← same-power top (r .engines) (s .1)) (end-within (not top) (h .0 .speed), h .0 .power, h .0 .near, h .1, h .2)
   fitting statistical h s = tt
 
-  pub admitted : Admitted (method-at (end (not top)) (r .method)) (r .ship .kind) (r .ship .deadweight) (sum-P-ME (engines-at (end top) (r .engines)))
-  admitted = record { deadweight = a .deadweight; power = power-within; method = fitting (r .method) (a .method) (a .settled) }
+  pub speed-accepted : Accepted-speed (method-at (end (not top)) (r .method)) (r .ship .kind) (r .ship .deadweight) (sum-P-ME (engines-at (end top) (r .engines)))
+  speed-accepted = record { deadweight = a .deadweight; power = power-within; method = fitting (r .method) (a .method) (a .settled) }
 
   -- ── The parts ─────────────────────────────────────────────────────────────────────────────
 
+  -- The ship at that end, its emissions, load, speed and f_c.
+  abbrev ship : Figures ℕ
+  ship = at-end top r
+
+  abbrev n : Bounds
+  n = emitted (at-end top r)
+
+  abbrev L : ℕ
+  L = load-of (r .ship)
+
+  abbrev v : Bounds
+  v = speed-of (at-end top r)
+
+  abbrev c : Bounds
+  c = factor-of (at-end top r)
+
+  pub emission-is : Emission (emissions (at-end top r)) (emitted (at-end top r))
+  unfolding emitted
+  emission-is =
+      let w = N-within top a in
+      record { encloses = emissions-exact (at-end top r); near = omega arith; order = le-refl _; some = w .least; most = w .most }
+
   pub speed-is : Speed (speed (at-end top r)) (speed-of (at-end top r))
   unfolding ship-at speed speed-of
-  speed-is = speed-law _ _ _ _ admitted
+  speed-is = speed-law _ _ _ _ speed-accepted
 
   pub factor-is : Follows (f-c (r .ship .kind) (r .ship)) (factor-of (at-end top r))
   unfolding ship-at factor-of
   factor-is = factor-law a
 
-  load-within : Within 700000 6300000000 (load (at-end top r))
-  unfolding ship-at ice-factor
-  load-within =
-      let c = capacity-within (r .ship .kind) (r .ship .deadweight) (a .deadweight) in
-      let i = ice-within (r .ship .ice) in
-      record { least = mul-le-mul (c .least) (i .least); most = mul-le-mul (c .most) (i .most) }
-    where
-      ice-within : (b : Bool) → Within 100 105 (ice-factor b)
-      ice-within true = omega arith
-      ice-within false = omega arith
-
-  speed-order : speed-of (at-end top r) .lo ≤ speed-of (at-end top r) .hi
+  speed-order : v .lo ≤ v .hi
   speed-order =
-      let c : speed-of (at-end top r) .lo // 1000000 ≼ speed-of (at-end top r) .hi // 1000000 = consistent _ (speed-is .encloses .low) (speed-is .encloses .high) in
-      omega (arith, c .cross)
+      let h : v .lo // 1000000 ≼ v .hi // 1000000 = consistent _ (speed-is .encloses .low) (speed-is .encloses .high) in
+      omega (arith, h .cross)
 
-  pub sized-lower : Sized (N (at-end top r)) (load (at-end top r)) (speed-of (at-end top r) .hi) (factor-of (at-end top r) .hi)
-  sized-lower =
-      let v = speed-is in
-      let c = factor-is .factored in
-      record {
-        emitted = N-within top a .most;
-        loaded = load-within;
-        moving = record { least = le-trans (v .slow) speed-order; most = v .fast };
-        factored = record { least = le-trans (c .low) (c .order); most = c .high };
-      }
+  moving : (s : Side) → Within 1000000 290000000 (at s v)
+  moving below = record { least = speed-is .slow; most = le-trans speed-order (speed-is .fast) }
+  moving above = record { least = le-trans (speed-is .slow) speed-order; most = speed-is .fast }
 
-  pub sized-upper : Sized (N (at-end top r)) (load (at-end top r)) (speed-of (at-end top r) .lo) (factor-of (at-end top r) .lo)
-  sized-upper =
-      let v = speed-is in
-      let c = factor-is .factored in
-      record {
-        emitted = N-within top a .most;
-        loaded = load-within;
-        moving = record { least = v .slow; most = le-trans speed-order (v .fast) };
-        factored = record { least = c .low; most = le-trans (c .order) (c .high) };
-      }
+  factored : (s : Side) → Within (2 ^ 30) (331 * 2 ^ 30) (at s c)
+  factored below = let h = factor-is .factored in record { least = h .low; most = le-trans (h .order) (h .high) }
+  factored above = let h = factor-is .factored in record { least = le-trans (h .low) (h .order); most = h .high }
+
+  small-emission : (s : Side) → at s n ≤ 6000000000000000
+  small-emission below = le-trans (emission-is .order) (emission-is .most)
+  small-emission above = emission-is .most
+
+  -- From the emissions on one side and the divisor on the other.
+  sized : (s : Side) → Sized (at s n) L (at (other s) v) (at (other s) c)
+  sized s = record { emitted = small-emission s; loaded = load-within (r .ship) (a .deadweight); moving = moving (other s); factored = factored (other s) }
+
+  pub sized-lower : Sized (emitted (at-end top r) .lo) (load-of (r .ship)) (speed-of (at-end top r) .hi) (factor-of (at-end top r) .hi)
+  sized-lower = sized below
+
+  pub sized-upper : Sized (emitted (at-end top r) .hi) (load-of (r .ship)) (speed-of (at-end top r) .lo) (factor-of (at-end top r) .lo)
+  sized-upper = sized above
 
   -- ── Demand 2 ──────────────────────────────────────────────────────────────────────────────
 
-  speed-side : (s : Side) → bounds s (speed (at-end top r)) (at s (speed-of (at-end top r)) // 1000000)
-  speed-side below = speed-is .encloses .low
-  speed-side above = speed-is .encloses .high
-
-  factor-side : (s : Side) → bounds s (f-c (r .ship .kind) (r .ship)) (at s (factor-of (at-end top r)) // unit)
-  factor-side below = factor-is .factored .encloses .low
-  factor-side above = factor-is .factored .encloses .high
-
-  capacity-side : (s : Side) → bounds s (Capacity (r .ship .kind) (r .ship .deadweight)) (hundredths (r .ship .kind) (r .ship .deadweight) // 100)
-  capacity-side below = capacity-exact (r .ship .kind) (r .ship .deadweight) .low
-  capacity-side above = capacity-exact (r .ship .kind) (r .ship .deadweight) .high
-
-  ice-side : (s : Side) → bounds s (f-m (r .ship .ice)) (ice-factor (r .ship .ice) // 100)
-  ice-side below = ice-exact (r .ship .ice) .low
-  ice-side above = ice-exact (r .ship .ice) .high
-
-  emissions-side : (s : Side) → bounds s (emissions (at-end top r)) (N (at-end top r) // 10000000)
-  emissions-side below = emissions-exact (at-end top r) .low
-  emissions-side above = emissions-exact (at-end top r) .high
-
   -- Tonnes times miles an hour, from f_c in 2^-30 and the speed in 10^-6 knot.
   moved : (c v : ℕ) → Frac
-  moved c v = c // unit · hundredths (r .ship .kind) (r .ship .deadweight) // 100 · v // 1000000 · ice-factor (r .ship .ice) // 100
+  moved c v = c // unit · L // 10000 · v // 1000000
 
-  transport-side : (s : Side) → bounds s (transport (at-end top r)) (moved (at s (factor-of (at-end top r))) (at s (speed-of (at-end top r))))
+  load-side : (s : Side) → bounds s (load (r .ship)) (L // 10000)
+  load-side below = load-exact (r .ship) .low
+  load-side above = load-exact (r .ship) .high
+
+  transport-side : (s : Side) → bounds s (transport (at-end top r)) (moved (at s c) (at s v))
   unfolding ship-at transport moved
-  transport-side s = by-product (by-product (by-product (factor-side s) (capacity-side s) (lies-refl s _)) (speed-side s) (lies-refl s _)) (ice-side s) (lies-refl s _)
+  transport-side s =
+      by-product (by-product (side c unit (factor-is .factored .encloses) s) (load-side s) (lies-refl s _)) (side v 1000000 (speed-is .encloses) s) (lies-refl s _)
 
-  -- The index on one side, from the other side of what it is divided by.
-  index-side : (s : Side) (y : Frac) → 0 < moved (at (other s) (factor-of (at-end top r))) (at (other s) (speed-of (at-end top r))) .num
-      → lies s (y · moved (at (other s) (factor-of (at-end top r))) (at (other s) (speed-of (at-end top r)))) (N (at-end top r) // 10000000) → bounds s (index (at-end top r)) y
-  unfolding index
-  index-side s y pos h = by-quotient (emissions-side s) (transport-side (other s)) pos h
-
-  moved-some : {n c v : ℕ} → Sized n (load (at-end top r)) v c → 0 < moved c v .num
-  unfolding moved ship-at
-  moved-some {n} {c} {v} z =
-      let l : 0 < hundredths (r .ship .kind) (r .ship .deadweight) * ice-factor (r .ship .ice) = omega (arith, z .loaded .least) in
-      let k : 0 < c * v = mul-pos (omega (arith, z .factored .least)) (omega (arith, z .moving .least)) in
+  moved-some : (s : Side) → 0 < moved (at s c) (at s v) .num
+  unfolding moved
+  moved-some s =
+      let l : 0 < L = omega (arith, load-within (r .ship) (a .deadweight) .least) in
+      let k : 0 < at s c * at s v = mul-pos (omega (arith, factored s .least)) (omega (arith, moving s .least)) in
       omega (arith, mul-pos l k)
 
-  moved-side : (s : Side) → 0 < moved (at s (factor-of (at-end top r))) (at s (speed-of (at-end top r))) .num
-  moved-side below = moved-some sized-upper
-  moved-side above = moved-some sized-lower
+  -- The index on one side, from the other side of what it is divided by.
+  index-side : (s : Side) (y : Frac) → lies s (y · moved (at (other s) c) (at (other s) v)) (at s n // 10000000) → bounds s (index (at-end top r)) y
+  unfolding index
+  index-side s y h = by-quotient (side n 10000000 (emission-is .encloses) s) (transport-side (other s)) (moved-some (other s)) h
 
-  -- In whole numbers: t load v F is at most n 10^15, and F millionths at least c.
-  under : (t n K i v c F : ℕ) → t * (K * i * v * F) ≤ n * 10 ^ 15 → c * 1000000 ≤ F * unit → t // 1000000 · (c // unit · K // 100 · v // 1000000 · i // 100) ≼ n // 10000000
-  under t n K i v c F h g = record { cross = omega (arith, mul-le-mul-left (t * (K * i * v)) g) }
+  -- In whole numbers: t L v F is at most n 10^15, and F millionths at least c.
+  under : (t n v c F : ℕ) → t * (L * v * F) ≤ n * 10 ^ 15 → c * 1000000 ≤ F * unit → t // 1000000 · moved c v ≼ n // 10000000
+  unfolding moved
+  under t n v c F h g = record { cross = omega (arith, mul-le-mul-left (t * (L * v)) g) }
 
-  over : (t n K i v c F : ℕ) → n * 10 ^ 15 ≤ t * (K * i * v * F) → F * unit ≤ c * 1000000 → n // 10000000 ≼ t // 1000000 · (c // unit · K // 100 · v // 1000000 · i // 100)
-  over t n K i v c F h g = record { cross = omega (arith, mul-le-mul-left (t * (K * i * v)) g) }
+  over : (t n v c F : ℕ) → n * 10 ^ 15 ≤ t * (L * v * F) → F * unit ≤ c * 1000000 → n // 10000000 ≼ t // 1000000 · moved c v
+  unfolding moved
+  over t n v c F h g = record { cross = omega (arith, mul-le-mul-left (t * (L * v)) g) }
 
   pub encloses : Enclosed (index (at-end top r)) (lower-of (at-end top r) // 1000000) (upper-of (at-end top r) // 1000000)
-  unfolding lower-of upper-of moved ship-at
+  unfolding lower-of upper-of ship-at
   encloses =
       record {
-        low =
-            index-side below _ (moved-side above)
-            (at-most (under (lower-of (at-end top r)) (N (at-end top r)) (hundredths (r .ship .kind) (r .ship .deadweight)) (ice-factor (r .ship .ice)) (speed-of (at-end top r) .hi) (factor-of (at-end top r) .hi) (millionths-up (factor-of (at-end top r) .hi))
-            (lower-floor sized-lower .at-most) (ceil-is (factor-of (at-end top r) .hi * 1000000) (2 ^ 30) (lit< tt) .at-least)));
-        high =
-            index-side above _ (moved-side below)
-            (at-least (over (upper-of (at-end top r)) (N (at-end top r)) (hundredths (r .ship .kind) (r .ship .deadweight)) (ice-factor (r .ship .ice)) (speed-of (at-end top r) .lo) (factor-of (at-end top r) .lo) (millionths-down (factor-of (at-end top r) .lo))
-            (upper-ceil sized-upper .at-least) (floor-is (factor-of (at-end top r) .lo * 1000000) (2 ^ 30) (lit< tt) .at-most)));
+        low = index-side below _ (at-most (under (lower-of ship) (n .lo) (v .hi) (c .hi) (millionths-up (c .hi)) (lower-floor sized-lower .at-most) (ceil-is (c .hi * 1000000) (2 ^ 30) (lit< tt) .at-least)));
+        high = index-side above _ (at-least (over (upper-of ship) (n .hi) (v .lo) (c .lo) (millionths-down (c .lo)) (upper-ceil sized-upper .at-least) (floor-is (c .lo * 1000000) (2 ^ 30) (lit< tt) .at-most)));
       }
 
   pub near : upper-of (at-end top r) * 100000 ≤ lower-of (at-end top r) * 100000 + upper-of (at-end top r) + 200000
-  unfolding lower-of upper-of
-  near = bounds-near sized-upper sized-lower speed-order (factor-is .factored .order) (speed-is .near) (factor-is .factored .near)
+  unfolding lower-of upper-of ship-at
+  near = bounds-near sized-upper sized-lower (emission-is .near) (speed-is .near) (factor-is .factored .near)
 
   pub small : upper-of (at-end top r) < 2 ^ 53
-  unfolding upper-of
+  unfolding upper-of ship-at
   small = upper-small sized-upper
 
   pub some : 0 < upper-of (at-end top r)
-  unfolding upper-of
-  some = upper-some sized-upper (N-within top a .least)
+  unfolding upper-of ship-at
+  some = upper-some sized-upper (lt-of-lt-of-le (emission-is .some) (emission-is .order))
 
   -- ── Where only fractions enter ────────────────────────────────────────────────────────────
 
   -- With a declared speed and f_c 1, the bounds are the exact index rounded down and up: no whole number of millionths that lies
   -- below the index is above the lower bound, and none that lies above it is below the upper one.
-  module _ {v : Range} (method : r .method ≡ declared v) (light : f-c (r .ship .kind) (r .ship) ≡ whole 1) where
+  module _ {w : Range} (method : r .method ≡ declared w) (light : f-c (r .ship .kind) (r .ship) ≡ whole 1) where
     knots : ℕ
-    knots = end (not top) v * 10000
+    knots = end (not top) w * 10000
 
     speed-exact : speed-of (at-end top r) ≡ exactly knots
     unfolding ship-at speed-of method-at knots
     speed-exact = rw method (declared-exact _ _ _ _)
 
-    factor-exact : factor-of (at-end top r) ≡ one
-    factor-exact = factor-is .one-where light
-
-    at-speed : (s : Side) → at s (speed-of (at-end top r)) ≡ knots
+    at-speed : (s : Side) → at s v ≡ knots
     at-speed below = ap (at below) speed-exact
     at-speed above = ap (at above) speed-exact
 
-    at-factor : (s : Side) → at s (factor-of (at-end top r)) ≡ unit
-    at-factor below = ap (at below) factor-exact
-    at-factor above = ap (at above) factor-exact
+    at-factor : (s : Side) → at s c ≡ unit
+    at-factor below = ap (at below) (factor-is .one-where light)
+    at-factor above = ap (at above) (factor-is .one-where light)
 
-    work-some : 0 < load (at-end top r) * knots
+    at-emission : (s : Side) → at s n ≡ N ship
+    unfolding emitted
+    at-emission below = refl
+    at-emission above = refl
+
+    work-some : 0 < L * knots
     work-some =
-        let l : 0 < load (at-end top r) = omega (arith, sized-upper .loaded .least) in
-        let v : 0 < speed-of (at-end top r) .lo = omega (arith, sized-upper .moving .least) in
-        mul-pos l (rw (at-speed below) at v)
+        let k : 0 < v .lo = omega (arith, speed-is .slow) in
+        mul-pos (omega (arith, load-within (r .ship) (a .deadweight) .least)) (rw (at-speed below) at k)
 
-    same : (N (at-end top r) * 1000) // (load (at-end top r) * knots) · moved unit knots ≈ N (at-end top r) // 10000000
-    unfolding moved ship-at
+    same : (N ship * 1000) // (L * knots) · moved unit knots ≈ N ship // 10000000
+    unfolding moved
     same = record { cross = rw (suc-pred-eq-of-pos work-some) (omega arith) }
 
-    exact-index : (s : Side) → bounds s (index (at-end top r)) ((N (at-end top r) * 1000) // (load (at-end top r) * knots))
-    exact-index s = index-side s _ (moved-side (other s)) (rw (at-factor (other s), at-speed (other s)) (lies-≈ s same))
+    exact-index : (s : Side) → bounds s (index (at-end top r)) ((N ship * 1000) // (L * knots))
+    exact-index s = index-side s _ (rw (at-factor (other s), at-speed (other s), at-emission s) (lies-≈ s same))
 
     pub lower-greatest : (t : ℕ) → bounds below (index (at-end top r)) (t // 1000000) → t ≤ lower-of (at-end top r)
-    unfolding lower-of
+    unfolding lower-of ship-at
     lower-greatest t h =
-        let c : t // 1000000 ≼ (N (at-end top r) * 1000) // (load (at-end top r) * knots) = consistent _ h (exact-index above) in
-        let x : t * (load (at-end top r) * knots) ≤ N (at-end top r) * 1000 * 1000000 = rw (suc-pred-eq-of-pos work-some) at (c .cross) in
-        floor-greatest (lower-floor sized-lower) t (rw (at-speed above, at-factor above) (omega arith))
+        let k : t // 1000000 ≼ (N ship * 1000) // (L * knots) = consistent _ h (exact-index above) in
+        let x : t * (L * knots) ≤ N ship * 1000 * 1000000 = rw (suc-pred-eq-of-pos work-some) at (k .cross) in
+        floor-greatest (lower-floor sized-lower) t (rw (at-speed above, at-factor above, at-emission below) (omega arith))
 
     pub upper-least : (t : ℕ) → bounds above (index (at-end top r)) (t // 1000000) → upper-of (at-end top r) ≤ t
-    unfolding upper-of
+    unfolding upper-of ship-at
     upper-least t h =
-        let c : (N (at-end top r) * 1000) // (load (at-end top r) * knots) ≼ t // 1000000 = consistent _ (exact-index below) h in
-        let x : N (at-end top r) * 1000 * 1000000 ≤ t * (load (at-end top r) * knots) = rw (suc-pred-eq-of-pos work-some) at (c .cross) in
-        ceil-least (upper-ceil sized-upper) t (rw (at-speed below, at-factor below) (omega arith))
+        let k : (N ship * 1000) // (L * knots) ≼ t // 1000000 = consistent _ (exact-index below) h in
+        let x : N ship * 1000 * 1000000 ≤ t * (L * knots) = rw (suc-pred-eq-of-pos work-some) at (k .cross) in
+        ceil-least (upper-ceil sized-upper) t (rw (at-speed below, at-factor below, at-emission above) (omega arith))
 
 -- ── Demand 3 ────────────────────────────────────────────────────────────────────────────────
 
 -- A declared speed by name grows with the speed.
-declared-order : (kind : Kind) (dwt : Deadweight) {v w : ℕ} (P P' : ℕ) → v ≤ w → (speedOf (declared v) kind dwt P .lo ≤ speedOf (declared w) kind dwt P' .lo) × (speedOf (declared v) kind dwt P .hi ≤ speedOf (declared w) kind dwt P' .hi)
+declared-order : (kind : Kind) (dwt : Deadweight) {v w : ℕ} (P P' : ℕ) → v ≤ w → (speed-by (declared v) kind dwt P .lo ≤ speed-by (declared w) kind dwt P' .lo) × (speed-by (declared v) kind dwt P .hi ≤ speed-by (declared w) kind dwt P' .hi)
 declared-order kind dwt {v} {w} P P' h =
     rw (declared-exact v kind dwt P, declared-exact w kind dwt P') (mul-le-mul-right 10000 h, mul-le-mul-right 10000 h)
 
 -- A ship inside the ranges has its own bounds inside the record's.
 pub inside-lower : {r : Figures Range} {f : Figures ℕ} → Inside r f → Settled (r .method) (r .engines)
-    → Sized (N (most-favourable r)) (load (most-favourable r)) (speed-of (most-favourable r) .hi) (factor-of (most-favourable r) .hi) → Sized (N f) (load f) (speed-of f .hi) (factor-of f .hi)
+    → Sized (emitted (most-favourable r) .lo) (load-of (r .ship)) (speed-of (most-favourable r) .hi) (factor-of (most-favourable r) .hi) → Sized (emitted f .lo) (load-of (f .ship)) (speed-of f .hi) (factor-of f .hi)
     → lower-of (most-favourable r) ≤ lower-of f
-unfolding ship-at speed-of factor-of lower-of
+unfolding ship-at speed-of factor-of emitted lower-of
 inside-lower (alike {s = p} e c v) s z z' =
     lower-order z z' (N-inside (alike e c v) .0)
-    (method-end low high low-single high-single (λ m P. speedOf m (p .kind) (p .deadweight) P) (λ x y. y .hi ≤ x .hi) (λ x. le-refl _) (λ r n P P' h. declared-order (p .kind) (p .deadweight) P' P (h .1) .1) v s e)
+    (method-end low high low-single high-single (λ m P. speed-by m (p .kind) (p .deadweight) P) (λ x y. y .hi ≤ x .hi) (λ x. le-refl _) (λ r n P P' h. declared-order (p .kind) (p .deadweight) P' P (h .1) .1) v s e)
 
 pub inside-upper : {r : Figures Range} {f : Figures ℕ} → Inside r f → Settled (r .method) (r .engines)
-    → Sized (N f) (load f) (speed-of f .lo) (factor-of f .lo) → Sized (N (least-favourable r)) (load (least-favourable r)) (speed-of (least-favourable r) .lo) (factor-of (least-favourable r) .lo)
+    → Sized (emitted f .hi) (load-of (f .ship)) (speed-of f .lo) (factor-of f .lo) → Sized (emitted (least-favourable r) .hi) (load-of (r .ship)) (speed-of (least-favourable r) .lo) (factor-of (least-favourable r) .lo)
     → upper-of f ≤ upper-of (least-favourable r)
-unfolding ship-at speed-of factor-of upper-of
+unfolding ship-at speed-of factor-of emitted upper-of
 inside-upper (alike {s = p} e c v) s z z' =
     upper-order z z' (N-inside (alike e c v) .1)
-    (method-end high low high-single low-single (λ m P. speedOf m (p .kind) (p .deadweight) P) (λ x y. x .lo ≤ y .lo) (λ x. le-refl _) (λ r n P P' h. declared-order (p .kind) (p .deadweight) P P' (h .0) .0) v s e)
+    (method-end high low high-single low-single (λ m P. speed-by m (p .kind) (p .deadweight) P) (λ x y. x .lo ≤ y .lo) (λ x. le-refl _) (λ r n P P' h. declared-order (p .kind) (p .deadweight) P P' (h .0) .0) v s e)
 
 -- Narrowing moves neither bound outward.
-pub narrowed-lower : {r r' : Figures Range} → Accepted r → Accepted r' → Narrowed r r' → lower-of (most-favourable r) ≤ lower-of (most-favourable r')
+pub narrowed-lower : {r r' : Figures Range} → Accepted-figures r → Accepted-figures r' → Narrowed r r' → lower-of (most-favourable r) ≤ lower-of (most-favourable r')
+unfolding ship-at
 narrowed-lower a a' n = inside-lower (ship-inside low high low-inside high-inside n) (a .settled) (sized-lower false a) (sized-lower false a')
 
-pub narrowed-upper : {r r' : Figures Range} → Accepted r → Accepted r' → Narrowed r r' → upper-of (least-favourable r') ≤ upper-of (least-favourable r)
+pub narrowed-upper : {r r' : Figures Range} → Accepted-figures r → Accepted-figures r' → Narrowed r r' → upper-of (least-favourable r') ≤ upper-of (least-favourable r)
+unfolding ship-at
 narrowed-upper a a' n = inside-upper (ship-inside high low high-inside low-inside n) (a .settled) (sized-upper true a') (sized-upper true a)

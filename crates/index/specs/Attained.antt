@@ -1,16 +1,16 @@
 -- The bounds of one ship's index, by names that other crates keep shut: their laws (proofs/Laws.antt) are all that they use of them. Only
 -- desk opens them, to compute the figures worked by hand.
 -- Assumes nothing.
-use Prim.Native.Nat.{ℕ, _*_, _/_, _^_, _≤_}
+use Prim.Native.Nat.{ℕ, _*_, _/_, _^_, _≤_, _<_}
+use Rattle.formula.specs.Formula.{_//_, Formula, Enclosed}
 use Rattle.exact.specs.Ship.{Figures}
 use Rattle.exact.specs.Ranges.{Range, most-favourable, least-favourable}
-use Rattle.exact.specs.Index.{sum-P-ME}
-use Rattle.number.specs.Division.{ceilOf}
+use Rattle.number.specs.Division.{ceil-of}
 use Rattle.power.specs.declared.Bounds.{Bounds}
-use Rattle.ship.specs.Accepted.{Within, hundredths}
-use Rattle.plant.specs.Plant.{N, ice-factor}
-use Rattle.factor.specs.Factor.{factorOf}
-use Rattle.speed.specs.Speeds.{speedOf}
+use Rattle.ship.specs.Accepted.{Within}
+use Rattle.plant.specs.Plant.{N, load-of, P-ME-of}
+use Rattle.factor.specs.Factor.{factor-by}
+use Rattle.speed.specs.Speeds.{exactly, speed-by}
 use Rattle.index.specs.declared.SpeedBounds.{SpeedBounds}
 use Rattle.index.specs.declared.Index.{Index}
 
@@ -21,14 +21,14 @@ abbrev pub millionths-down : ℕ → ℕ
 millionths-down c = c * 1000000 / 2 ^ 30
 
 abbrev pub millionths-up : ℕ → ℕ
-millionths-up c = ceilOf (c * 1000000) (2 ^ 30)
+millionths-up c = ceil-of (c * 1000000) (2 ^ 30)
 
 -- n / (load v c) in millionths of a gram per tonne and mile, rounded down and up, once.
-unfoldable pub lowerOf : (n load v c : ℕ) → ℕ
-lowerOf n load v c = n * 10 ^ 15 / (load * v * millionths-up c)
+unfoldable pub index-down : (n load v c : ℕ) → ℕ
+index-down n load v c = n * 10 ^ 15 / (load * v * millionths-up c)
 
-unfoldable pub upperOf : (n load v c : ℕ) → ℕ
-upperOf n load v c = ceilOf (n * 10 ^ 15) (load * v * millionths-down c)
+unfoldable pub index-up : (n load v c : ℕ) → ℕ
+index-up n load v c = ceil-of (n * 10 ^ 15) (load * v * millionths-down c)
 
 -- Sizes at which every step fits.
 pub record Sized (n load v c : ℕ) : Type 0 where
@@ -39,22 +39,31 @@ pub record Sized (n load v c : ℕ) : Type 0 where
 
 -- ── Of one ship ─────────────────────────────────────────────────────────────────────────────
 
-abbrev pub load : Figures ℕ → ℕ
-load f = hundredths (f .ship .kind) (f .ship .deadweight) * ice-factor (f .ship .ice)
+-- The emissions in 10^-7 g/h, from below and from above: only fractions enter, so the two are one.
+unfoldable pub emitted : Figures ℕ → Bounds
+emitted f = exactly (N f)
+
+-- What may be used of it: the two ends enclose the formula, and differ by at most two millionths of the lower.
+pub record Emission (e : Formula) (r : Bounds) : Type 0 where
+  pub encloses : Enclosed e (r .lo // 10000000) (r .hi // 10000000)
+  pub near : r .hi * 1000000 ≤ r .lo * 1000002
+  pub order : r .lo ≤ r .hi
+  pub some : 0 < r .lo
+  pub most : r .hi ≤ 6000000000000000
 
 -- The speed in millionths of a knot, and f_c in 2^-30.
 unfoldable pub speed-of : Figures ℕ → Bounds
-speed-of f = speedOf (f .method) (f .ship .kind) (f .ship .deadweight) (sum-P-ME (f .engines))
+speed-of f = speed-by (f .method) (f .ship .kind) (f .ship .deadweight) (P-ME-of f)
 
 unfoldable pub factor-of : Figures ℕ → Bounds
-factor-of f = factorOf (f .ship .kind) (f .ship)
+factor-of f = factor-by (f .ship .kind) (f .ship)
 
--- The lower bound takes the upper speed and factor, and the upper bound the lower ones.
+-- The lower bound takes the lower emissions over the upper speed and factor, and the upper bound the reverse.
 unfoldable pub lower-of : Figures ℕ → ℕ
-lower-of f = lowerOf (N f) (load f) (speed-of f .hi) (factor-of f .hi)
+lower-of f = index-down (emitted f .lo) (load-of (f .ship)) (speed-of f .hi) (factor-of f .hi)
 
 unfoldable pub upper-of : Figures ℕ → ℕ
-upper-of f = upperOf (N f) (load f) (speed-of f .lo) (factor-of f .lo)
+upper-of f = index-up (emitted f .hi) (load-of (f .ship)) (speed-of f .lo) (factor-of f .lo)
 
 -- ── Of a ship with ranges ───────────────────────────────────────────────────────────────────
 

@@ -6,7 +6,7 @@ ghost use mathlib.Core.Path.{_≡_};
 ghost use Rattle.ship.specs.Figures.{figures};
 ghost use Rattle.ship.specs.Rules.{refusal-of};
 ghost use Rattle.ship.specs.declared.Refusal.the-variants as refusal;
-ghost use Rattle.index.specs.Attained.{Sized, lowerOf, upperOf, speeds-of, index-of};
+ghost use Rattle.index.specs.Attained.{Sized, index-down, index-up, speeds-of, index-of};
 
 // The speed of the most and of the least favourable ship, in millionths of a knot.
 pub struct SpeedBounds {
@@ -22,7 +22,7 @@ pub struct Index {
 // n / (load v c), rounded down: by load v to 63 bits, then by f_c in millionths, which is one rounding.
 fn lower(n: u64, load: u64, v: u64, c: u64) -> u64
     requires { ⌜ Sized n load v c ⌝ }
-    ensures { λ r. ⌜ r ≡ lowerOf n load v c ⌝ }
+    ensures { λ r. ⌜ r ≡ index-down n load v c ⌝ }
 {
     let f = (c * 1000000 + 1073741823) / 1073741824;
     let q = number::division::floor_scaled(n, load * v, 10, 15);
@@ -32,26 +32,27 @@ fn lower(n: u64, load: u64, v: u64, c: u64) -> u64
 // n / (load v c), rounded up.
 fn upper(n: u64, load: u64, v: u64, c: u64) -> u64
     requires { ⌜ Sized n load v c ⌝ }
-    ensures { λ r. ⌜ r ≡ upperOf n load v c ⌝ }
+    ensures { λ r. ⌜ r ≡ index-up n load v c ⌝ }
 {
     let f = c * 1000000 / 1073741824;
     let q = number::division::ceil_scaled(n, load * v, 10, 15);
     (q + (f - 1)) / f
 }
 
-// The speed bounds of a record that rules 4 to 16 leave. Only with a declared speed do the ends of its ranges enter; by any other method the most and
-// the least favourable ship have one speed.
+// The speed bounds of a record that rules 4 to 16 leave. Where neither speed nor power is a range, the most and the least favourable
+// ship have one speed.
 pub fn speeds(s: Ship) -> SpeedBounds
     requires { ⌜ refusal-of s ≡ refusal.None ⌝ }
     ensures { λ r. ⌜ r ≡ speeds-of (figures s) ⌝ }
 {
     let p = s.particulars;
-    let most = speed::speed(p, s.speed.high, plant::power(s, false));
-    if p.method == 1 {
-        let least = speed::speed(p, s.speed.low, plant::power(s, true));
-        return SpeedBounds { most, least };
+    let power = plant::powers(s);
+    let most = speed::speed(p, s.speed.high, power.low);
+    if (s.speed.low == s.speed.high) & (power.low == power.high) {
+        return SpeedBounds { most, least: most };
     }
-    SpeedBounds { most, least: most }
+    let least = speed::speed(p, s.speed.low, power.high);
+    SpeedBounds { most, least }
 }
 
 // The bounds of a record's index from its own speed bounds, where rules 4 to 16 leave it.
@@ -62,9 +63,10 @@ pub fn attained(s: Ship, v: SpeedBounds) -> Index
     let c = factor::factor(s);
     let most = v.most;
     let least = v.least;
-    let load = plant::capacity(s) * plant::ice_factor(s.particulars.ice);
-    let low = lower(plant::emissions(s, false), load, most.hi, c.hi);
-    let high = upper(plant::emissions(s, true), load, least.lo, c.lo);
+    let load = plant::load(s);
+    let n = plant::emissions(s);
+    let low = lower(n.main.low + n.auxiliary.low, load, most.hi, c.hi);
+    let high = upper(n.main.high + n.auxiliary.high, load, least.lo, c.lo);
     Index {
         lower: low,
         upper: high,

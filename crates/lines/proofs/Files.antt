@@ -10,7 +10,7 @@ use borrow.Author.Tests.{ltb-true, le-leb, lt-leb}
 use lib.Dec.{ltb}
 use lib.ListN.{length, take, drop, length-append, length-drop}
 use lib.Seq.{take-all, take-append-le, drop-append-le, take-at, drop-at, drop-drop}
-use Rattle.exact.specs.Index.{if}
+use Rattle.formula.specs.Words.{if}
 use Rattle.decimal.specs.Digits.{Put}
 use Rattle.lines.specs.Lines.{line-of, piece, pieces, lines-to, lines-of, lines-within}
 use Rattle.decimal.proofs.Putting.{put-put, put-none, put-as}

@@ -4,7 +4,7 @@ use Prim.Native.Nat.{ℕ, zero, suc, _+_, _*_, _/_}
 use mathlib.Core.List.{List, [], _∷_, _++_}
 use lib.Dec.{leb}
 use lib.ListN.{length, take, drop}
-use Rattle.exact.specs.Index.{if}
+use Rattle.formula.specs.Words.{if}
 use Rattle.fields.specs.Numbers.{number-at}
 use Rattle.ship.specs.Refusals.{number-of}
 use Rattle.desk.specs.Answers.{answer-of-block}

@@ -7,7 +7,7 @@ ghost use mathlib.Core.Path.{_≡_};
 ghost use Prim.Native.Nat.{_+_, _-_, _*_, _≤_, _<_};
 ghost use lib.Dec.{ltb};
 ghost use lib.ListN.{length};
-ghost use Rattle.exact.specs.Index.{if};
+ghost use Rattle.formula.specs.Words.{if};
 ghost use Rattle.decimal.specs.Digits.{Put};
 ghost use Rattle.lines.specs.Lines.{bounds-line, refusal-line, line-of, pieces, lines-to, lines-within};
 

@@ -30,14 +30,14 @@ module _ (top : Bool) (stand-in : ℕ) (s : Within 100 215 stand-in) (c : Consum
 
 -- ── An engine ───────────────────────────────────────────────────────────────────────────────
 
-pub record Usable (top : Bool) (e : Engine) : Type 0 where
+pub record Accepted-engine (top : Bool) (e : Engine) : Type 0 where
   pub mcr : end top (range-of (e .mcr)) ≤ 120000
   pub limit : e .limit ≤ 120000
   pub uses : Measured (uses-of (e .uses)) × Fuelled (e .uses)
 
-pub usable : (top : Bool) (e : Engine) → Entered e → Usable top e
+pub engine-accepted : (top : Bool) (e : Engine) → Entered e → Accepted-engine top e
 unfolding engine-of
-usable top e (r, f) = record { mcr = end-within top (r .mcr) .most; limit = engine-limit r; uses = (r .uses, f) }
+engine-accepted top e (r, f) = record { mcr = end-within top (r .mcr) .most; limit = engine-limit r; uses = (r .uses, f) }
 
 -- ── P_AE ────────────────────────────────────────────────────────────────────────────────────
 

@@ -8,15 +8,17 @@ use native.Mathlib.Omega.{arith}
 use native.Mathlib.Nat.{mul-le-mul, mul-le-mul-left, add-le-add, le-refl}
 use lib.Dec.{lit≤}
 use lib.ListN.{length}
-use Rattle.exact.specs.Ship.{Fuel, diesel, light, heavy, propane, butane, lng, methanol, ethanol, Kind, Deadweight, Consumption, recorded, neither, Engine, Auxiliary, rule, table, Figures}
-use Rattle.exact.specs.Index.{if, container?, C-F, rated}
-use Rattle.exact.specs.Ranges.{Range, Uses, same-fuel, no-source, Engines, no-more, one-more, alike, Inside, most-favourable, least-favourable, uses-at, engines-at, ship-at, low, high}
+use Rattle.exact.specs.Ship.{Fuel, diesel, light, heavy, propane, butane, lng, methanol, ethanol, Consumption, recorded, neither, Engine, Auxiliary, rule, table}
+use Rattle.exact.specs.Ship.{Particulars, Figures}
+use Rattle.exact.specs.Index.{C-F, sum-P-ME, rated, Capacity}
+use Rattle.exact.specs.Ranges.{Range, Uses, same-fuel, no-source, Engines, no-more, one-more, alike, Inside, most-favourable, least-favourable, uses-at, engines-at}
+use Rattle.exact.specs.Ranges.{ship-at, low, high}
 use Rattle.exact.proofs.Favour.{P-ME-mono, rated-mono, turn-uses, turn-engines, uses-end, engines-end}
-use Rattle.exact.proofs.Rules.{by-rule-min}
-use Rattle.ship.specs.Accepted as accepted
-use Rattle.ship.specs.Accepted.{Within, Ends, Measured, Rated, Each, Supplied, hundredths, Accepted}
+use Rattle.exact.proofs.Rules.{by-rule-min, Capacity-between}
+use Rattle.ship.specs.Accepted as figures-accepted
+use Rattle.ship.specs.Accepted.{Within, Ends, Measured, Rated, Each, Supplied, Accepted-figures}
 use Rattle.ship.proofs.Figured.{power-within}
-use Rattle.plant.specs.Plant.{end, at-end, grams, main-grams, auxiliary-power, N}
+use Rattle.plant.specs.Plant.{end, at-end, grams, main-grams, auxiliary-power, main-N, auxiliary-N, N, ice-factor, load-of}
 
 -- ── The two ends ────────────────────────────────────────────────────────────────────────────
 
@@ -43,7 +45,7 @@ auxiliary-mono (table kW) h = le-refl _
 
 pub N-mono : (f f' : Figures ℕ) → f .ship .auxiliary ≡ f' .ship .auxiliary → Engines _≤_ (f .engines) (f' .engines)
     → Uses _≤_ (f .auxiliary-uses) (f' .auxiliary-uses) → N f ≤ N f'
-unfolding N
+unfolding main-N auxiliary-N
 N-mono f f' same e c =
     rw same
     (add-le-add (mul-le-mul-left 10 (main-mono e)) (mul-le-mul (auxiliary-mono (f' .ship .auxiliary) (rated-mono e)) (grams-mono 215 c)))
@@ -81,27 +83,28 @@ unfolding grams uses-at
 grams-within top stand-in s (recorded sfc fuel) m = product-within (factor-within fuel) (end-within top m)
 grams-within top stand-in s neither m = record { least = omega (arith, s .least); most = omega (arith, s .most) }
 
-limit-small : {mcr limit : ℕ} → mcr ≤ 120000 → accepted.Limited mcr limit → limit ≤ 120000
-limit-small h accepted.no-limiter = lit≤ tt
-limit-small h (accepted.limiter w) = omega (arith, w .most)
+limit-small : {mcr limit : ℕ} → mcr ≤ 120000 → figures-accepted.Limited mcr limit → limit ≤ 120000
+limit-small h figures-accepted.no-limiter = lit≤ tt
+limit-small h (figures-accepted.limiter w) = omega (arith, w .most)
 
 pub engine-limit : {e : Engine Range} → Rated e → e .limit ≤ 120000
 engine-limit h = limit-small (omega (arith, h .mcr .rising, h .mcr .most)) (h .limit)
 
 -- What n engines come to.
 pub record Bounded (n : ℕ) (es : List (Engine ℕ)) : Type 0 where
+  pub power : sum-P-ME es ≤ n * 9000000
   pub rated : rated es ≤ n * 120000
   pub grams : Within (n * 5156250000) (n * 115416000000000) (main-grams es)
 
 pub bounded : (top : Bool) {es : List (Engine Range)} → Each Rated es → Bounded (length es) (engines-at (end top) es)
-unfolding rated main-grams engines-at
-bounded top accepted.no-more = record { rated = omega arith; grams = record { least = omega arith; most = omega arith } }
-bounded top (accepted.one-more {x = e} h hs) =
+unfolding sum-P-ME rated main-grams engines-at
+bounded top figures-accepted.no-more = record { power = omega arith; rated = omega arith; grams = record { least = omega arith; most = omega arith } }
+bounded top (figures-accepted.one-more {x = e} h hs) =
     let m = end-within top (h .mcr) in
     let p = power-within (end top (e .mcr)) (e .mcr .low) (e .limit) (m .least) (m .most) (h .limit) in
     let g = product-within p (grams-within top 190 (record { least = lit≤ tt; most = lit≤ tt }) (e .uses) (h .uses)) in
     let r = bounded top hs in
-    record { rated = omega (arith, m .most, r .rated); grams = record { least = omega (arith, g .least, r .grams .least); most = omega (arith, g .most, r .grams .most) } }
+    record { power = omega (arith, p .most, r .power); rated = omega (arith, m .most, r .rated); grams = record { least = omega (arith, g .least, r .grams .least); most = omega (arith, g .most, r .grams .most) } }
 
 pub auxiliary-most : (a : Auxiliary) {mcr : ℕ} → Supplied a → mcr ≤ 480000 → auxiliary-power a mcr ≤ 50000000
 unfolding auxiliary-power
@@ -109,8 +112,8 @@ auxiliary-most rule {mcr} s h = rw (by-rule-min mcr) (omega arith)
 auxiliary-most (table kW) s h = omega (arith, s .most)
 
 -- The emissions at either end of an accepted record are some, and fit a double without loss.
-pub N-within : (top : Bool) {f : Figures Range} → Accepted f → Within 1 6000000000000000 (N (at-end top f))
-unfolding N ship-at
+pub N-within : (top : Bool) {f : Figures Range} → Accepted-figures f → Within 1 6000000000000000 (N (at-end top f))
+unfolding main-N auxiliary-N ship-at
 N-within top {f} a =
     let b = bounded top (a .engines) in
     let k = a .count in
@@ -118,9 +121,13 @@ N-within top {f} a =
     let m = mul-le-mul (auxiliary-most (f .ship .auxiliary) {mcr = rated (engines-at (end top) (f .engines))} (a .auxiliary) (omega (arith, b .rated, k .most))) (g .most) in
     record { least = omega (arith, b .grams .least, k .least); most = omega (arith, b .grams .most, k .most, m) }
 
-pub capacity-within : (kind : Kind) (dwt : Deadweight) → Within 100 600000 (dwt .tonnes) → Within 7000 60000000 (hundredths kind dwt)
-capacity-within kind dwt w = go (container? kind)
+pub load-within : (s : Particulars) → Within 100 600000 (s .deadweight .tonnes) → Within 700000 6300000000 (load-of s)
+unfolding load-of ice-factor
+load-within s w =
+    let c = Capacity-between (s .kind) (s .deadweight) in
+    let k : Within 7000 60000000 (Capacity (s .kind) (s .deadweight)) = record { least = omega (arith, w .least, c .0); most = omega (arith, w .most, c .1) } in
+    product-within k (ice-within (s .ice))
   where
-    go : (b : Bool) → Within 7000 60000000 (if b (70 * dwt .tonnes) (100 * dwt .tonnes))
-    go true = record { least = omega (arith, w .least); most = omega (arith, w .most) }
-    go false = record { least = omega (arith, w .least); most = omega (arith, w .most) }
+    ice-within : (ice : Bool) → Within 100 105 (ice-factor ice)
+    ice-within true = omega arith
+    ice-within false = omega arith

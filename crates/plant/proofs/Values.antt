@@ -4,13 +4,11 @@ use Prim.Native.Nat.{ℕ, _*_}
 use mathlib.Core.Bool.{Bool, true, false}
 use mathlib.Core.List.{List, [], _∷_}
 use native.Mathlib.Omega.{arith}
-use Rattle.exact.specs.Formula.{_//_, Enclosed}
-use Rattle.exact.specs.Ship.{Deadweight, Kind, Consumption, recorded, neither, Engine, Auxiliary, rule, table, Figures}
-use Rattle.exact.specs.Index.{if, whole, percent, container?, emission, main-emission, P-AE, Capacity, f-m, emissions}
-use Rattle.exact.specs.Formula.{Formula, _⊗_}
-use Rattle.exact.proofs.Formulas.{enclosed-≈, enclosed-lit, enclosed-sum, enclosed-product}
-use Rattle.ship.specs.Accepted.{hundredths}
-use Rattle.plant.specs.Plant.{grams, main-grams, auxiliary-power, N, ice-factor}
+use Rattle.formula.specs.Formula.{_//_, Formula, Enclosed}
+use Rattle.exact.specs.Ship.{Consumption, recorded, neither, Engine, Auxiliary, rule, table, Particulars, Figures}
+use Rattle.exact.specs.Index.{emission, main-emission, P-AE, f-m, emissions, load}
+use Rattle.formula.proofs.Formulas.{enclosed-≈, enclosed-lit, enclosed-sum, enclosed-product}
+use Rattle.plant.specs.Plant.{grams, main-grams, auxiliary-power, main-N, auxiliary-N, N, ice-factor, load-of}
 
 -- n k-ths is the value of a formula.
 abbrev pub Exactly : Formula → ℕ → ℕ → Type 0
@@ -32,21 +30,17 @@ auxiliary-exact rule mcr = enclosed-lit _
 auxiliary-exact (table kW) mcr = enclosed-≈ (enclosed-lit _) (omega arith)
 
 pub emissions-exact : (f : Figures ℕ) → Exactly (emissions f) (N f) 10000000
-unfolding emissions N
+unfolding emissions main-N auxiliary-N
 emissions-exact f =
     enclosed-≈
     (enclosed-sum (main-exact (f .engines)) (enclosed-product (auxiliary-exact (f .ship .auxiliary) _) (grams-exact 215 (f .auxiliary-uses))))
     (omega arith)
 
-pub capacity-exact : (kind : Kind) (dwt : Deadweight) → Exactly (Capacity kind dwt) (hundredths kind dwt) 100
-unfolding Capacity
-capacity-exact kind dwt = go (container? kind)
-  where
-    go : (b : Bool) → Exactly (if b (percent 70 ⊗ whole (dwt .tonnes)) (whole (dwt .tonnes))) (if b (70 * dwt .tonnes) (100 * dwt .tonnes)) 100
-    go true = enclosed-≈ (enclosed-product (enclosed-lit _) (enclosed-lit _)) (omega arith)
-    go false = enclosed-≈ (enclosed-lit _) (omega arith)
-
-pub ice-exact : (ice : Bool) → Exactly (f-m ice) (ice-factor ice) 100
+ice-exact : (ice : Bool) → Exactly (f-m ice) (ice-factor ice) 100
 unfolding f-m ice-factor
 ice-exact true = enclosed-lit _
 ice-exact false = enclosed-≈ (enclosed-lit _) (omega arith)
+
+pub load-exact : (s : Particulars) → Exactly (load s) (load-of s) 10000
+unfolding load load-of
+load-exact s = enclosed-≈ (enclosed-product (enclosed-lit _) (ice-exact (s .ice))) (omega arith)

@@ -1,15 +1,18 @@
 -- Emissions and factors of a ship as whole numbers: the values of the index's formulas, in the units of the calculation.
 -- Assumes nothing.
-use Prim.Native.Nat.{ℕ, _+_, _*_}
+use Prim.Native.Nat.{ℕ, _+_, _*_, _≤_}
 use mathlib.Core.Bool.{Bool, true, false, not}
 use mathlib.Core.List.{List, [], _∷_}
-use Rattle.exact.specs.Ship.{Consumption, recorded, neither, Engine, Auxiliary, rule, table, Figures}
+use Rattle.exact.specs.Ship.{Consumption, recorded, neither, Engine, Auxiliary, rule, table, Particulars, Figures}
 use Rattle.exact.specs.Ranges.{Range, low, high, ship-at}
-use Rattle.exact.specs.Index.{if, C-F, P-ME, sum-P-ME, rated, by-rule}
+use Rattle.formula.specs.Words.{if}
+use Rattle.exact.specs.Index.{C-F, P-ME, sum-P-ME, rated, by-rule, Capacity}
 use Rattle.ship.specs.declared.Engine as entry
+use Rattle.ship.specs.declared.Range as record-range
 use Rattle.ship.specs.Figures.{Fuelled, engine-of}
 use Rattle.ship.specs.Accepted.{Rated}
 use Rattle.plant.specs.declared.Sums.{Sums}
+use Rattle.plant.specs.declared.Emitted.{Emitted}
 
 -- One end of a range.
 abbrev pub end : Bool → Range → ℕ
@@ -39,14 +42,46 @@ unfoldable pub auxiliary-power : Auxiliary → ℕ → ℕ
 auxiliary-power rule mcr = by-rule mcr
 auxiliary-power (table kW) mcr = 1000 * kW
 
--- Emissions in 10^-7 g/h.
-unfoldable pub N : Figures ℕ → ℕ
-N f = 10 * main-grams (f .engines) + auxiliary-power (f .ship .auxiliary) (rated (f .engines)) * grams 215 (f .auxiliary-uses)
+-- Emissions in 10^-7 g/h, of the main engines and of the auxiliaries.
+unfoldable pub main-N : Figures ℕ → ℕ
+main-N f = 10 * main-grams (f .engines)
+
+unfoldable pub auxiliary-N : Figures ℕ → ℕ
+auxiliary-N f = auxiliary-power (f .ship .auxiliary) (rated (f .engines)) * grams 215 (f .auxiliary-uses)
+
+abbrev pub N : Figures ℕ → ℕ
+N f = main-N f + auxiliary-N f
 
 -- f_m in hundredths.
 unfoldable pub ice-factor : Bool → ℕ
 ice-factor ice = if ice 105 100
 
--- The three sums over main engines.
+-- Capacity with f_m, in 10^-4 t.
+unfoldable pub load-of : Particulars → ℕ
+load-of s = Capacity (s .kind) (s .deadweight) * ice-factor (s .ice)
+
+-- ── Of a record ─────────────────────────────────────────────────────────────────────────────
+
+-- The three sums over main engines, and with one engine more.
 abbrev pub sums-of : List (Engine ℕ) → Sums
 sums-of es = record { power = sum-P-ME es; rated = rated es; grams = main-grams es }
+
+abbrev pub with-engine : Sums → Engine ℕ → Sums
+with-engine s e =
+    record { power = s .power + P-ME (e .mcr) (e .limit); rated = s .rated + e .mcr; grams = s .grams + P-ME (e .mcr) (e .limit) * grams 190 (e .uses) }
+
+-- The sums of at most three engines, so that a fourth one fits.
+pub record Roomy (s : Sums) : Type 0 where
+  pub power : s .power ≤ 27000000
+  pub rated : s .rated ≤ 360000
+  pub grams : s .grams ≤ 346248000000000
+
+-- A figure at the low and at the high end of every range.
+abbrev pub ends-of : (Figures ℕ → ℕ) → Figures Range → record-range.Range
+ends-of g r = record { low = g (at-end false r); high = g (at-end true r) }
+
+abbrev pub P-ME-of : Figures ℕ → ℕ
+P-ME-of f = sum-P-ME (f .engines)
+
+abbrev pub emitted-of : Figures Range → Emitted
+emitted-of r = record { main = ends-of main-N r; auxiliary = ends-of auxiliary-N r }

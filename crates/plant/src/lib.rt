@@ -1,4 +1,4 @@
-// Power and emissions of a record's engines at one end of every range, and its Capacity and f_m, in whole numbers.
+// Power and emissions of a record's engines at both ends of every range, and its Capacity with f_m, in whole numbers.
 use ship::Consumption;
 use ship::Engine;
 use ship::Range;
@@ -7,20 +7,32 @@ ghost use mathlib.Core.Path.{_≡_};
 ghost use Prim.Native.Nat.{ℕ, _≤_, _<_};
 ghost use lib.Dec.{eqb};
 ghost use lib.ListN.{getD};
-ghost use Rattle.exact.specs.Index.{C-F, sum-P-ME};
-ghost use Rattle.exact.specs.Ranges.{uses-at, engines-at};
+ghost use Rattle.exact.specs.Index.{C-F};
+ghost use Rattle.exact.specs.Ranges.{low, high, uses-at, engines-at};
 ghost use Rattle.ship.specs.Record.{no-engine};
-ghost use Rattle.ship.specs.Figures.{range-of, fuel-of, uses-of, Fuelled, mains, auxiliary-of, figures};
-ghost use Rattle.ship.specs.Accepted.{Within, Measured, Supplied, hundredths};
+ghost use Rattle.ship.specs.Figures.{range-of, fuel-of, uses-of, Fuelled, entry-at, mains, auxiliary-of, figures};
+ghost use Rattle.ship.specs.Accepted.{Within, Measured, Supplied};
 ghost use Rattle.ship.specs.Rules.{refusal-of};
 ghost use Rattle.ship.specs.declared.Refusal.the-variants as refusal;
-ghost use Rattle.plant.specs.Plant.{end, at-end, Entered, grams, auxiliary-power, N, ice-factor, sums-of};
+ghost use Rattle.plant.specs.Plant.{end, Entered, Roomy, grams, auxiliary-power, ice-factor, load-of, sums-of, with-engine, ends-of, P-ME-of, emitted-of};
 
 // Over the main engines: P_ME in 1/100 kW, MCR in kW, P_ME × C_F × SFC in 10^-6 g/h.
 struct Sums {
     pub power: u64,
     pub rated: u64,
     pub grams: u64,
+}
+
+// At the low and at the high end of every range.
+struct SumEnds {
+    pub low: Sums,
+    pub high: Sums,
+}
+
+// What the main engines and the auxiliaries emit.
+pub struct Emitted {
+    pub main: Range,
+    pub auxiliary: Range,
 }
 
 // One end of a range.
@@ -61,32 +73,46 @@ fn emission(uses: Consumption, stand_in: u64, high: bool) -> u64
     conversion(uses.fuel) * end_of(sfc, high)
 }
 
-// The sums over the engines that are used.
-fn main_sums(engines: [Engine; 4], used: u64, high: bool) -> Sums
-    requires { ⌜ (used ≤ 4) × ((i : ℕ) → i < used → Entered (getD engines i no-engine)) ⌝ }
-    ensures { λ r. ⌜ r ≡ sums-of (engines-at (end high) (mains used engines)) ⌝ }
+// The sums with one engine more, at one end of its ranges; at most three were there.
+fn and_engine(sums: Sums, e: Engine, high: bool) -> Sums
+    requires { ⌜ Entered e × Roomy sums ⌝ }
+    ensures { λ r. ⌜ r ≡ with-engine sums (entry-at (end high) e) ⌝ }
 {
-    let n = used as usize;
-    let mut power: u64 = 0;
-    let mut rated: u64 = 0;
-    let mut grams: u64 = 0;
-    let mut i: usize = 0;
-    while i < n {
-        let e = engines[i];
-        let range = e.mcr;
-        let uses = e.uses;
-        let mcr = end_of(range, high);
-        let kw = ship::power::power(mcr, e.limit);
-        power += kw;
-        rated += mcr;
-        grams += kw * emission(uses, 190, high);
-        i += 1;
-    }
+    let range = e.mcr;
+    let uses = e.uses;
+    let mcr = end_of(range, high);
+    let kw = ship::power::engine_power(mcr, e.limit);
+    let power = sums.power + kw;
+    let rated = sums.rated + mcr;
+    let grams = sums.grams + kw * emission(uses, 190, high);
     Sums {
         power,
         rated,
         grams,
     }
+}
+
+// The sums over the engines that are used, at both ends in one walk.
+fn main_sums(engines: [Engine; 4], used: u64) -> SumEnds
+    requires { ⌜ (used ≤ 4) × ((i : ℕ) → i < used → Entered (getD engines i no-engine)) ⌝ }
+    ensures { λ r. ⌜ (r .low ≡ sums-of (engines-at low (mains used engines))) × (r .high ≡ sums-of (engines-at high (mains used engines))) ⌝ }
+{
+    let n = used as usize;
+    let none = Sums {
+        power: 0,
+        rated: 0,
+        grams: 0,
+    };
+    let mut low = none;
+    let mut high = none;
+    let mut i: usize = 0;
+    while i < n {
+        let e = engines[i];
+        low = and_engine(low, e, false);
+        high = and_engine(high, e, true);
+        i += 1;
+    }
+    SumEnds { low, high }
 }
 
 // P_AE in 1/1000 kW, from the power table or from total MCR.
@@ -104,40 +130,52 @@ fn auxiliary_power(method: u64, table: u64, rated: u64) -> u64
     }
 }
 
-// The sum of P_ME of a record that rules 4 to 16 leave, in 1/100 kW.
-pub fn power(s: Ship, high: bool) -> u64
+// The sum of P_ME of a record that rules 4 to 16 leave, in 1/100 kW, at both ends of its ranges.
+pub fn powers(s: Ship) -> Range
     requires { ⌜ refusal-of s ≡ refusal.None ⌝ }
-    ensures { λ r. ⌜ (r ≡ sum-P-ME (engines-at (end high) (figures s .engines))) × Within 7500 36000000 r ⌝ }
+    ensures { λ r. ⌜ r ≡ ends-of P-ME-of (figures s) ⌝ }
 {
     let engines = s.engines;
-    main_sums(engines, s.particulars.used, high).power
+    let sums = main_sums(engines, s.particulars.used);
+    Range {
+        low: sums.low.power,
+        high: sums.high.power,
+    }
 }
 
-// The emissions of a record that rules 4 to 16 leave, in 10^-7 g/h.
-pub fn emissions(s: Ship, high: bool) -> u64
+// The emissions of a record that rules 4 to 16 leave, in 10^-7 g/h, at both ends of its ranges.
+pub fn emissions(s: Ship) -> Emitted
     requires { ⌜ refusal-of s ≡ refusal.None ⌝ }
-    ensures { λ r. ⌜ (r ≡ N (at-end high (figures s))) × Within 1 6000000000000000 r ⌝ }
+    ensures { λ r. ⌜ r ≡ emitted-of (figures s) ⌝ }
 {
     let p = s.particulars;
     let engines = s.engines;
     let uses = s.auxiliary;
-    let main = main_sums(engines, p.used, high);
-    let auxiliary = auxiliary_power(p.auxiliary, p.table, main.rated);
-    10 * main.grams + auxiliary * emission(uses, 215, high)
-}
-
-// Capacity of a record that rules 4 to 16 leave, in 1/100 t.
-pub fn capacity(s: Ship) -> u64
-    requires { ⌜ refusal-of s ≡ refusal.None ⌝ }
-    ensures { λ r. ⌜ (r ≡ hundredths (figures s .ship .kind) (figures s .ship .deadweight)) × Within 7000 60000000 r ⌝ }
-{
-    let deadweight = s.particulars.deadweight;
-    ship::power::capacity_of(s.particulars.kind, deadweight)
+    let sums = main_sums(engines, p.used);
+    let main = Range {
+        low: 10 * sums.low.grams,
+        high: 10 * sums.high.grams,
+    };
+    let auxiliary = Range {
+        low: auxiliary_power(p.supply, p.table, sums.low.rated) * emission(uses, 215, false),
+        high: auxiliary_power(p.supply, p.table, sums.high.rated) * emission(uses, 215, true),
+    };
+    Emitted { main, auxiliary }
 }
 
 // f_m by the ice class, in 1/100.
-pub fn ice_factor(ice: u64) -> u64
+fn ice_factor(ice: u64) -> u64
     ensures { λ r. ⌜ (r ≡ ice-factor (eqb ice 1)) × Within 100 105 r ⌝ }
 {
     if ice == 1 { 105 } else { 100 }
+}
+
+// Capacity with f_m, of a record that rules 4 to 16 leave, in 10^-4 t.
+pub fn load(s: Ship) -> u64
+    requires { ⌜ refusal-of s ≡ refusal.None ⌝ }
+    ensures { λ r. ⌜ r ≡ load-of (figures s .ship) ⌝ }
+{
+    let deadweight = s.particulars.deadweight;
+    let capacity = ship::power::capacity_of(s.particulars.kind, deadweight);
+    capacity * ice_factor(s.particulars.ice)
 }

@@ -1,6 +1,6 @@
 -- The record at one end of every range is accepted where the record with the ranges is, and stands for the ship at that end.
 -- Assumes nothing.
-use Prim.Native.Nat.{ℕ, zero, suc, _+_, _-_, _≤_, _<_}
+use Prim.Native.Nat.{ℕ, zero, suc, _+_, _≤_, _<_}
 use mathlib.Core.Path.{_≡_, refl, sym, ap, ap₂}
 use mathlib.Core.Bool.{Bool, true, false, _&&_, _||_, not}
 use mathlib.Core.List.{List, [], _∷_, map}
@@ -8,15 +8,17 @@ use native.Mathlib.Omega.{arith}
 use borrow.Author.Tests.{ltb-false, le-ltb, eq-eqb, eqb-true, not-false}
 use lib.Dec.{eqb, ltb, leb}
 use lib.ListN.{getD, length}
-use Rattle.exact.specs.Index.{if, P-ME, sum-P-ME}
-use Rattle.exact.specs.Ship.{recorded, neither as neither-source, Method, declared, trial as by-trial-run, design-trial, statistical}
+use Rattle.formula.specs.Words.{if}
+use Rattle.exact.specs.Index.{P-ME, sum-P-ME}
+use Rattle.exact.specs.Ship.{recorded, neither as neither-source}
 use Rattle.exact.specs.Ranges as ranges
 use Rattle.exact.specs.Ranges.{both-ends, Stands-for, uses-at, engines-at, method-at, ship-at, low, high, most-favourable, least-favourable}
 use Rattle.ship.specs.Record.{no-engine}
 use Rattle.ship.specs.Refusals.{first-of}
-use Rattle.ship.specs.Figures.{fuel-of, range-of, deadweight-of, uses-of, engine-of, mains, method-of, figures}
+use Rattle.ship.specs.Figures.{fuel-of, range-of, uses-of, engine-of, mains, method-of, figures}
 use Rattle.ship.specs.Ends.{one-end, uses-end, engine-end, record-end}
-use Rattle.ship.specs.Rules.{outside, between, nonzero, any-used, any-unused, engine-refused, uses-refused, speed-refused, crossed, range-refused, engine-crossed, trial-refused, occupied, tests, refusal-of}
+use Rattle.ship.specs.Rules.{outside, between, nonzero, any-used, any-unused, engine-refused, uses-refused, speed-refused, crossed, range-refused, engine-crossed}
+use Rattle.ship.specs.Rules.{trial-refused, occupied, hull-tests, plant-tests, trial-tests, refusal-of}
 use Rattle.ship.specs.declared.Range.{Range}
 use Rattle.ship.specs.declared.Consumption.{Consumption}
 use Rattle.ship.specs.declared.Engine.{Engine}
@@ -24,7 +26,8 @@ use Rattle.ship.specs.declared.Particulars.{Particulars}
 use Rattle.ship.specs.declared.Trial.{Trial}
 use Rattle.ship.specs.declared.Ship.{Ship}
 use Rattle.ship.specs.declared.Refusal.the-variants.{None}
-use Rattle.ship.proofs.Right.{holds}
+use Rattle.ship.proofs.Numbered.{method-end, speeds-alike}
+use Rattle.ship.proofs.Right.{no-refusal}
 use Rattle.ship.proofs.Tests.{neither, not-with, inside, each-used}
 
 -- A test that fails.
@@ -177,30 +180,31 @@ module _ (top : Bool) (p : Particulars) (es : List Engine) (few : p .used ≤ 4)
 -- ── The whole record ────────────────────────────────────────────────────────────────────────
 
 pub accepted-end : (top : Bool) (s : Ship) → refusal-of s ≡ None → refusal-of (record-end top s) ≡ None
-unfolding refusal-of first-of tests
+unfolding refusal-of first-of hull-tests plant-tests trial-tests
 accepted-end top s e =
     let p = s .particulars in
     let es = s .engines in
-    let h = holds s e in
-    let r = neither (range-refused (p .method) (s .speed) || crossed (s .auxiliary .sfc)) (any-used (engine-crossed (p .method)) (p .used) es) (h 10) .1 in
-    let n = neither (outside 1 4 (p .used)) (any-used engine-refused (p .used) es) (h 5) in
-    let c = neither (uses-refused (s .auxiliary)) (any-used (λ x. uses-refused (x .uses)) (p .used) es) (h 6) in
+    let q = no-refusal s e in
+    let h = q .early in
+    let r = neither (range-refused (p .method) (s .speed) || crossed (s .auxiliary .sfc)) (any-used (engine-crossed (p .method)) (p .used) es) (h .ranges) .1 in
+    let n = neither (outside 1 4 (p .used)) (any-used engine-refused (p .used) es) (h .engines) in
+    let c = neither (uses-refused (s .auxiliary)) (any-used (λ x. uses-refused (x .uses)) (p .used) es) (h .consumption) in
     rw (
-      h 0,
-      h 1,
-      h 2,
-      h 3,
-      h 4,
+      h .imo,
+      h .kind,
+      h .deadweight,
+      h .gross,
+      h .cargo,
       either (n .0) (used top es engine-refused (engine-crossed (p .method)) engine-refused (engine top (p .method)) (p .used) (n .1) r),
       either (uses top (s .auxiliary) (c .0))
           (used top es (λ x. uses-refused (x .uses)) (λ x. uses-refused (x .uses)) (λ x. uses-refused (x .uses)) (λ x a b. uses top (x .uses) a) (p .used) (c .1) (c .1)),
-      h 7,
-      h 8,
-      speed (not top) (p .method) (p .kind) (s .speed) (h 9),
+      h .auxiliary,
+      h .ice,
+      speed (not top) (p .method) (p .kind) (s .speed) (h .speed),
       either (either (single (p .method) (not top) (s .speed)) (not-crossed top (s .auxiliary .sfc)))
           (used top es (engine-crossed (p .method)) (engine-crossed (p .method)) (engine-crossed (p .method)) (λ x a b. either (single (p .method) top (x .mcr)) (not-crossed top (x .uses .sfc))) (p .used) r r),
-      trial top p es (inside 1 4 (p .used) (n .0) .most) r (h 11),
-      others top es occupied occupied occupied (λ x a b. unused top x a) (p .used) (h 12) (h 12),
+      trial top p es (inside 1 4 (p .used) (n .0) .most) r (q .trial),
+      others top es occupied occupied occupied (λ x a b. unused top x a) (p .used) (q .unused) (q .unused),
     )
 
 -- ── The ship that it stands for ─────────────────────────────────────────────────────────────
@@ -222,20 +226,8 @@ module _ (top : Bool) (p q : ranges.Range → ℕ) (hp : (r : Range) → one-end
   engines-stand (suc n) [] = ranges.no-more
   engines-stand (suc n) (e ∷ es) = ranges.one-more (hp (e .mcr), hp (e .mcr)) (uses-stand (e .uses)) (engines-stand n es)
 
-  method-stand : (m : ℕ) (v : Range) (t : Trial) → ranges.Speeds both-ends (method-of m (one-end (not top) v) t) (method-at q (method-of m v t))
-  unfolding method-of method-at
-  method-stand m v t = go (m - 1)
-    where
-      methods : Range → List (Method ranges.Range)
-      methods r =
-          declared (range-of r) ∷ by-trial-run (range-of r) (t .power) ∷ design-trial (range-of r) (t .power) (deadweight-of (t .deadweight)) ∷ statistical ∷ []
-
-      go : (i : ℕ) → ranges.Speeds both-ends (getD (methods (one-end (not top) v)) i statistical) (method-at q (getD (methods v) i statistical))
-      go zero = ranges.method-1 (hq v, hq v)
-      go (suc zero) = ranges.method-2 (hq v, hq v)
-      go (suc (suc zero)) = ranges.method-3 (hq v, hq v)
-      go (suc (suc (suc zero))) = ranges.method-4
-      go (suc (suc (suc (suc i)))) = ranges.method-4
+  method-stand : (m : ℕ) (v : Range) (t : Trial) → ranges.Speeds both-ends (method-of m (range-of (one-end (not top) v)) t) (method-at q (method-of m (range-of v) t))
+  method-stand m v t = rw (method-end q m (range-of v) t) (speeds-alike m _ _ t (hq v, hq v))
 
   stand : (s : Ship) → Stands-for (figures (record-end top s)) (ship-at p q (figures s))
   unfolding figures ship-at

@@ -1,6 +1,7 @@
 pub mod Tests
 pub mod Sums
 pub mod Order
+pub mod Numbered
 pub mod Right
 pub mod Figured
 pub mod Typed

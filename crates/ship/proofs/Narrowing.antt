@@ -1,6 +1,6 @@
 -- A record with narrower ranges has narrowed figures, so that demand 3 speaks of every such record.
 -- Assumes nothing.
-use Prim.Native.Nat.{ℕ, zero, suc, _-_, _≤_, _<_}
+use Prim.Native.Nat.{ℕ, zero, suc, _≤_, _<_}
 use mathlib.Core.Path.{_≡_, refl}
 use mathlib.Core.Bool.{Bool, true, false, not}
 use mathlib.Core.List.{List, [], _∷_, map}
@@ -8,11 +8,11 @@ use native.Mathlib.Omega.{arith}
 use borrow.Author.Tests.{ltb-true, ltb-false}
 use lib.Dec.{eqb, ltb}
 use lib.ListN.{length, getD}
-use Rattle.exact.specs.Index.{if}
-use Rattle.exact.specs.Ship.{recorded, neither, Method, declared, trial, design-trial, statistical}
+use Rattle.formula.specs.Words.{if}
+use Rattle.exact.specs.Ship.{recorded, neither}
 use Rattle.exact.specs.Ranges as ranges
 use Rattle.exact.specs.Ranges.{narrows, Narrowed}
-use Rattle.ship.specs.Figures.{fuel-of, range-of, deadweight-of, uses-of, engine-of, mains, method-of, figures}
+use Rattle.ship.specs.Figures.{fuel-of, range-of, uses-of, engine-of, mains, figures}
 use Rattle.ship.specs.Record.{no-engine}
 use Rattle.ship.specs.Ends.{one-end, uses-end, engine-end, record-end, Narrower, Narrower-uses, Narrower-engines, no-more, one-more, Narrower-record}
 use Rattle.ship.specs.Rules.{refusal-of}
@@ -20,9 +20,9 @@ use Rattle.ship.specs.declared.Refusal.the-variants as refusal
 use Rattle.ship.specs.declared.Range.{Range}
 use Rattle.ship.specs.declared.Consumption.{Consumption}
 use Rattle.ship.specs.declared.Engine.{Engine}
-use Rattle.ship.specs.declared.Trial.{Trial}
 use Rattle.ship.specs.declared.Ship.{Ship}
-use Rattle.ship.proofs.Right.{right}
+use Rattle.ship.proofs.Numbered.{speeds-alike}
+use Rattle.ship.proofs.Right.{numbers-accepted}
 
 range : {r r' : Range} → Narrower r r' → narrows (range-of r) (range-of r')
 range h = (h .raised, h .rising, h .lowered)
@@ -41,25 +41,11 @@ engines zero h = ranges.no-more
 engines (suc n) no-more = ranges.no-more
 engines (suc n) (one-more m l c h) = rw l (ranges.one-more (range m) (uses c) (engines n h))
 
-speed : (m : ℕ) {v v' : Range} (t : Trial) → Narrower v v' → ranges.Speeds narrows (method-of m v t) (method-of m v' t)
-unfolding method-of
-speed m {v} {v'} t h = go (m - 1)
-  where
-    methods : Range → List (Method ranges.Range)
-    methods r = declared (range-of r) ∷ trial (range-of r) (t .power) ∷ design-trial (range-of r) (t .power) (deadweight-of (t .deadweight)) ∷ statistical ∷ []
-
-    go : (i : ℕ) → ranges.Speeds narrows (getD (methods v) i statistical) (getD (methods v') i statistical)
-    go zero = ranges.method-1 (range h)
-    go (suc zero) = ranges.method-2 (range h)
-    go (suc (suc zero)) = ranges.method-3 (range h)
-    go (suc (suc (suc zero))) = ranges.method-4
-    go (suc (suc (suc (suc i)))) = ranges.method-4
-
 pub narrowed : {s s' : Ship} → Narrower-record s s' → Narrowed (figures s) (figures s')
 unfolding figures
 narrowed {s} h =
     rw (h .particulars)
-    (ranges.alike (engines (s .particulars .used) (h .engines)) (uses (h .auxiliary)) (speed (s .particulars .method) (s .particulars .trial) (h .speed)))
+    (ranges.alike (engines (s .particulars .used) (h .engines)) (uses (h .auxiliary)) (speeds-alike (s .particulars .method) _ _ (s .particulars .trial) (range (h .speed))))
 
 -- ── The most and the least favourable record lie within the ranges ──────────────────────────
 
@@ -85,14 +71,14 @@ module _ (s : Ship) (four : length (s .engines) ≡ 4) (none : refusal-of s ≡ 
   entry-rises i h = go (ltb i (s .particulars .used)) refl
     where
       go : (b : Bool) → ltb i (s .particulars .used) ≡ b → Rising (getD (s .engines) i no-engine)
-      go true e = let k = right s none .entries i (ltb-true i (s .particulars .used) e) in record { mcr = k .mcr .rising; sfc = k .uses .rising }
-      go false e = rw (right s none .others i (omega arith) (ltb-false i (s .particulars .used) e)) (omega arith)
+      go true e = let k = numbers-accepted s none .entries i (ltb-true i (s .particulars .used) e) in record { mcr = k .mcr .rising; sfc = k .uses .rising }
+      go false e = rw (numbers-accepted s none .others i (omega arith) (ltb-false i (s .particulars .used) e)) (omega arith)
 
   pub ends-narrower : (top : Bool) → Narrower-record s (record-end top s)
   ends-narrower top =
       record {
         particulars = refl;
-        speed = range-end (not top) (right s none .ends .rising);
-        auxiliary = uses-narrower top (right s none .auxiliary-uses .rising);
+        speed = range-end (not top) (numbers-accepted s none .ends .rising);
+        auxiliary = uses-narrower top (numbers-accepted s none .auxiliary-uses .rising);
         engines = engines-narrower top (s .engines) entry-rises;
       }

@@ -5,13 +5,14 @@ use mathlib.Core.Path.{_≡_, refl, sym, ap, _∙_}
 use mathlib.Core.Bool.{Bool, true, false, _&&_}
 use mathlib.Core.List.{List, [], _∷_, _++_}
 use native.Mathlib.Omega.{arith}
-use borrow.Author.Tests.{ltb-true, ne-eqb}
-use lib.ListN.{getD, take, drop}
-use lib.Dec.{ltb}
-use Rattle.exact.specs.Index.{if}
-use Rattle.ship.specs.Refusals.{number-of, First, no-test, given, passed-by, first-of, or-else}
+use borrow.Author.Tests.{ltb-true, ne-eqb, eqb-true}
+use lib.ListN.{getD}
+use lib.Dec.{eqb, ltb}
+use Rattle.formula.specs.Words.{if}
+use Rattle.ship.specs.Refusals.{number-of, First, no-test, given, passed-by, first-of}
 use Rattle.ship.specs.declared.Refusal.{Refusal}
-use Rattle.ship.specs.declared.Refusal.the-variants.{None, Length, Check, Layout, ImoNumber, ShipType, Deadweight, GrossTonnage, CargoVolume, Engines, Consumption, AuxiliaryPower, IceClass, Speed, Ranges, Trial, Unused, NoBlock}
+use Rattle.ship.specs.declared.Refusal.the-variants.{None, Length, Check, Layout, ImoNumber, ShipType, Deadweight, GrossTonnage, CargoVolume, Engines}
+use Rattle.ship.specs.declared.Refusal.the-variants.{Consumption, AuxiliaryPower, IceClass, Speed, Ranges, Trial, Unused, NoBlock}
 
 -- Only none has the number 0.
 pub none : (r : Refusal) → number-of r ≡ 0 → r ≡ None
@@ -59,18 +60,19 @@ first-one (passed-by f) (passed-by g) = first-one f g
 
 -- ── Where none is given ─────────────────────────────────────────────────────────────────────
 
-head : (p : Bool) (n r : Refusal) → ltb 0 (number-of n) ≡ true → if p n r ≡ None → (p ≡ false) × (r ≡ None)
-head true n r h e =
+-- The first test fails, and the others give none.
+pub next-test : (p : Bool) (n r : Refusal) → ltb 0 (number-of n) ≡ true → if p n r ≡ None → (p ≡ false) × (r ≡ None)
+next-test true n r h e =
     let z : number-of n ≡ 0 = ap number-of e in
     absurd (omega (arith, ltb-true 0 (number-of n) h))
-head false n r h e = (refl, e)
+next-test false n r h e = (refl, e)
 
 -- Each test fails.
 pub passed : (ts : List (Bool × Refusal)) (rest : Refusal) → Numbered ts ≡ true → first-of ts rest ≡ None → (i : ℕ) → getD ts i (false, None) .0 ≡ false
 unfolding first-of
 passed [] rest n e i = refl
-passed (t ∷ ts) rest n e zero = head (t .0) (t .1) (first-of ts rest) (both _ _ n .0) e .0
-passed (t ∷ ts) rest n e (suc i) = passed ts rest (both (ltb 0 (number-of (t .1))) (Numbered ts) n .1) (head (t .0) (t .1) (first-of ts rest) (both _ _ n .0) e .1) i
+passed (t ∷ ts) rest n e zero = next-test (t .0) (t .1) (first-of ts rest) (both _ _ n .0) e .0
+passed (t ∷ ts) rest n e (suc i) = passed ts rest (both (ltb 0 (number-of (t .1))) (Numbered ts) n .1) (next-test (t .0) (t .1) (first-of ts rest) (both _ _ n .0) e .1) i
 
 -- ── One list after another ──────────────────────────────────────────────────────────────────
 
@@ -79,11 +81,18 @@ unfolding first-of
 first-append [] us rest = refl
 first-append (t ∷ ts) us rest = ap (if (t .0) (t .1)) (first-append ts us rest)
 
-pub first-split : (n : ℕ) (ts : List (Bool × Refusal)) (rest : Refusal) → first-of ts rest ≡ first-of (take n ts) (first-of (drop n ts) rest)
-unfolding first-of
-first-split zero ts rest = refl
-first-split (suc n) [] rest = refl
-first-split (suc n) (t ∷ ts) rest = ap (if (t .0) (t .1)) (first-split n ts rest)
+-- A refusal, or where it is none, what comes after it.
+unfoldable pub or-else : Refusal → Refusal → Refusal
+or-else refusal rest = if (eqb (number-of refusal) 0) rest refusal
+
+-- Where that is none, so is the refusal.
+pub own-none : (r rest : Refusal) → or-else r rest ≡ None → r ≡ None
+unfolding or-else
+own-none r rest = go (eqb (number-of r) 0) refl
+  where
+    go : (t : Bool) → eqb (number-of r) 0 ≡ t → if t rest r ≡ None → r ≡ None
+    go true e h = none r (eqb-true (number-of r) 0 e)
+    go false e h = h
 
 onward-head : (p : Bool) (n r rest : Refusal) → ltb 0 (number-of n) ≡ true → if p n (or-else r rest) ≡ or-else (if p n r) rest
 unfolding or-else
@@ -98,15 +107,15 @@ onward (t ∷ ts) rest n =
     ap (if (t .0) (t .1)) (onward ts rest (both (ltb 0 (number-of (t .1))) (Numbered ts) n .1))
     ∙ onward-head (t .0) (t .1) (first-of ts None) rest (both _ _ n .0)
 
--- The first n tests give a refusal, which is then the list's; or none, and the others are the list's.
-module _ (n : ℕ) (ts : List (Bool × Refusal)) (numbered : Numbered (take n ts) ≡ true) where
-  two-stages : first-of ts None ≡ or-else (first-of (take n ts) None) (first-of (drop n ts) None)
-  two-stages = first-split n ts None ∙ onward (take n ts) (first-of (drop n ts) None) numbered
+-- The first list gives a refusal, which is then that of both; or none, and the second list's is.
+module _ (ts us : List (Bool × Refusal)) (numbered : Numbered ts ≡ true) where
+  pub two-stages : first-of (ts ++ us) None ≡ or-else (first-of ts None) (first-of us None)
+  two-stages = first-append ts us None ∙ onward ts (first-of us None) numbered
 
-  pub stopped : (r : Refusal) → r ≡ first-of (take n ts) None → (number-of r ≡ 0 → ⊥) → r ≡ first-of ts None
+  pub stopped : (r : Refusal) → r ≡ first-of ts None → (number-of r ≡ 0 → ⊥) → r ≡ first-of (ts ++ us) None
   unfolding or-else
   stopped r e h = sym (two-stages ∙ rw (← e, ne-eqb (number-of r) 0 h))
 
-  pub went-on : first-of (take n ts) None ≡ None → first-of (drop n ts) None ≡ first-of ts None
+  pub went-on : first-of ts None ≡ None → first-of us None ≡ first-of (ts ++ us) None
   unfolding or-else
   went-on e = sym (two-stages ∙ rw e)

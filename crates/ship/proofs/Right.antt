@@ -1,19 +1,21 @@
 -- What the numbers of a record with no refusal are.
 -- Assumes nothing.
 use Prim.Native.Nat.{ℕ, _+_, _*_, _≤_, _<_}
-use mathlib.Core.Path.{_≡_, refl, ap, _∙_}
+use mathlib.Core.Path.{_≡_, refl, sym, ap, _∙_}
 use mathlib.Core.Bool.{Bool, true, false, _&&_, _||_, not}
 use mathlib.Core.List.{List, _++_}
 use native.Mathlib.Omega.{arith}
 use borrow.Author.Tests.{ltb-false, eq-eqb, ne-eqb, eqb-true, eqb-false, le-leb, not-false}
 use lib.Dec.{eqb, ltb}
-use lib.ListN.{getD}
-use Rattle.exact.specs.Index.{sum-P-ME}
+use lib.ListN.{getD, length}
+use Rattle.exact.specs.Index.{Capacity, sum-P-ME}
 use Rattle.exact.specs.Ranges.{engines-at, low}
 use Rattle.ship.specs.Record.{no-engine}
-use Rattle.ship.specs.Refusals.{first-of, or-else}
-use Rattle.ship.specs.Figures.{Fuelled, mains}
-use Rattle.ship.specs.Rules.{outside, between, nonzero, any-used, uses-refused, auxiliary-refused, speed-refused, crossed, range-refused, engine-crossed, capacity, apart, trial-refused, occupied, tests, refusal-of}
+use Rattle.ship.specs.Refusals.{number-of, first-of}
+use Rattle.ship.specs.Figures.{kinds, kind-of, Listed, Fuelled, deadweight-of, mains}
+use Rattle.ship.specs.Rules.{outside, between, nonzero, any-used, imo-refused, type-refused, deadweight-refused, gross-refused, volume-refused, engines-refused}
+use Rattle.ship.specs.Rules.{uses-refused, consumption-refused, auxiliary-refused, ice-refused, speed-refused, crossed, range-refused, engine-crossed}
+use Rattle.ship.specs.Rules.{ranges-refused, apart, trial-refused, occupied, unused-refused, hull-tests, plant-tests, trial-tests, early-tests, tests, refusal-of}
 use Rattle.ship.specs.Accepted.{Within, Near}
 use Rattle.ship.specs.declared.Range.{Range}
 use Rattle.ship.specs.declared.Consumption.{Consumption}
@@ -22,18 +24,68 @@ use Rattle.ship.specs.declared.Particulars.{Particulars}
 use Rattle.ship.specs.declared.Ship.{Ship}
 use Rattle.ship.specs.declared.Refusal.{Refusal}
 use Rattle.ship.specs.declared.Refusal.the-variants as refusal
-use Rattle.ship.proofs.Order.{passed, first-append, onward}
+use Rattle.ship.proofs.Order.{passed, own-none, or-else, two-stages}
 use Rattle.ship.proofs.Tests.{neither, not-with, inside, is-zero, each-used, each-unused, engines-inside, Sized, engine-inside}
 
--- No refusal, so no test holds.
-pub holds : (s : Ship) → refusal-of s ≡ refusal.None → (i : ℕ) → getD (tests s) i (false, refusal.None) .0 ≡ false
-unfolding refusal-of tests
-holds s e = passed (tests s) refusal.None refl e
+-- ── What a record has passed, row by row ────────────────────────────────────────────────────
+
+pub record Early (s : Ship) : Type 0 where
+  pub imo : imo-refused (s .particulars .imo) ≡ false
+  pub kind : type-refused (s .particulars .kind) ≡ false
+  pub deadweight : deadweight-refused (s .particulars .deadweight) ≡ false
+  pub gross : gross-refused (s .particulars .kind) (s .particulars .gross) ≡ false
+  pub cargo : volume-refused (s .particulars .kind) (s .particulars .cargo) ≡ false
+  pub engines : engines-refused (s .particulars .used) (s .engines) ≡ false
+  pub consumption : consumption-refused (s .auxiliary) (s .particulars .used) (s .engines) ≡ false
+  pub auxiliary : auxiliary-refused (s .particulars .supply) (s .particulars .table) ≡ false
+  pub ice : ice-refused (s .particulars .ice) ≡ false
+  pub speed : speed-refused (s .particulars .method) (s .particulars .kind) (s .speed) ≡ false
+  pub ranges : ranges-refused s ≡ false
+
+pub early : (s : Ship) → first-of (early-tests s) refusal.None ≡ refusal.None → Early s
+unfolding hull-tests plant-tests
+early s e =
+    let h = passed (early-tests s) refusal.None refl e in
+    record {
+      imo = h 0;
+      kind = h 1;
+      deadweight = h 2;
+      gross = h 3;
+      cargo = h 4;
+      engines = h 5;
+      consumption = h 6;
+      auxiliary = h 7;
+      ice = h 8;
+      speed = h 9;
+      ranges = h 10;
+    }
+
+pub record Passed (z : Bool) (s : Ship) : Type 0 where
+  pub early : Early s
+  pub trial : trial-refused (s .particulars) (s .engines) ≡ false
+  pub zeros : z ≡ false
+  pub unused : unused-refused (s .particulars .used) (s .engines) ≡ false
+
+pub all-passed : (zeros : Bool) (s : Ship) → first-of (tests zeros s) refusal.None ≡ refusal.None → Passed zeros s
+unfolding hull-tests plant-tests trial-tests
+all-passed zeros s e =
+    let h = passed (tests zeros s) refusal.None refl e in
+    let k = neither zeros (unused-refused (s .particulars .used) (s .engines)) (h 12) in
+    record { early = early s (own-none (first-of (early-tests s) refusal.None) _ (sym (two-stages (early-tests s) (trial-tests zeros s) refl) ∙ e)); trial = h 11; zeros = k .0; unused = k .1 }
+
+pub no-refusal : (s : Ship) → refusal-of s ≡ refusal.None → Passed false s
+unfolding refusal-of
+no-refusal = all-passed false
+
+-- A block whose bytes are refused nothing has a record that is refused nothing.
+pub own-refusal : (zeros : Bool) (s : Ship) → first-of (tests zeros s) refusal.None ≡ refusal.None → refusal-of s ≡ refusal.None
+unfolding refusal-of
+own-refusal zeros s e = rw (← all-passed zeros s e .zeros) e
 
 -- Tests that come after a record's own count only where it has no refusal.
-pub after-own : (s : Ship) (us : List (Bool × Refusal)) → first-of (tests s ++ us) refusal.None ≡ or-else (refusal-of s) (first-of us refusal.None)
-unfolding refusal-of tests
-after-own s us = first-append (tests s) us refusal.None ∙ onward (tests s) (first-of us refusal.None) refl
+pub after-own : (s : Ship) (us : List (Bool × Refusal)) → first-of (tests false s ++ us) refusal.None ≡ or-else (refusal-of s) (first-of us refusal.None)
+unfolding refusal-of hull-tests plant-tests trial-tests
+after-own s us = two-stages (tests false s) us refl
 
 -- ── Guards that are met ─────────────────────────────────────────────────────────────────────
 
@@ -169,14 +221,14 @@ pub record Trialled (m kW tonnes P C : ℕ) : Type 0 where
   pub loaded : m ≡ 3 → Near (100 * tonnes) C
 
 trialled : (p : Particulars) (es : List Engine) → Within 1 4 (p .method) → trial-refused p es ≡ false
-    → Trialled (p .method) (p .trial .power) (p .trial .deadweight .tonnes) (sum-P-ME (engines-at low (mains (p .used) es))) (capacity (p .kind) (p .deadweight))
+    → Trialled (p .method) (p .trial .power) (p .trial .deadweight .tonnes) (sum-P-ME (engines-at low (mains (p .used) es))) (Capacity (kind-of (p .kind)) (deadweight-of (p .deadweight)))
 unfolding trial-refused
 trialled p es w e =
     let m = p .method in
     let kW = p .trial .power in
     let t = p .trial .deadweight .tonnes in
     let P = sum-P-ME (engines-at low (mains (p .used) es)) in
-    let C = capacity (p .kind) (p .deadweight) in
+    let C = Capacity (kind-of (p .kind)) (deadweight-of (p .deadweight)) in
     let some = nonzero kW || nonzero t in
     let bad = outside 1 600000 kW || apart kW P in
     let off = eqb t 0 || apart t C in
@@ -227,21 +279,21 @@ idle e h =
 
 -- ── All of them ─────────────────────────────────────────────────────────────────────────────
 
-pub record Right (s : Ship) : Type 0 where
+pub record Accepted-numbers (s : Ship) : Type 0 where
   pub imo : Within 1000000 9999999 (s .particulars .imo)
-  pub kind : Within 1 7 (s .particulars .kind)
+  pub kind : Listed (s .particulars .kind)
   pub deadweight : Within 100 600000 (s .particulars .deadweight .tonnes)
   pub gross : Of-type 7 100 400000 (s .particulars .kind) (s .particulars .gross .gt)
-  pub volume : Of-type 1 100 1000000 (s .particulars .kind) (s .particulars .volume)
+  pub cargo : Of-type 1 100 1000000 (s .particulars .kind) (s .particulars .cargo)
   pub used : Within 1 4 (s .particulars .used)
   pub entries : (i : ℕ) → i < s .particulars .used → Entry (s .particulars .method) (getD (s .engines) i no-engine)
   pub auxiliary-uses : Metered (s .auxiliary)
-  pub auxiliary : Within 1 2 (s .particulars .auxiliary)
-  pub table : Of-type 2 1 50000 (s .particulars .auxiliary) (s .particulars .table)
+  pub auxiliary : Within 1 2 (s .particulars .supply)
+  pub table : Of-type 2 1 50000 (s .particulars .supply) (s .particulars .table)
   pub ice : s .particulars .ice ≤ 1
   pub speed : Speeded (s .particulars .method) (s .particulars .kind) (s .speed)
   pub ends : Settles (s .particulars .method) (s .speed)
-  pub trial : Trialled (s .particulars .method) (s .particulars .trial .power) (s .particulars .trial .deadweight .tonnes) (sum-P-ME (engines-at low (mains (s .particulars .used) (s .engines)))) (capacity (s .particulars .kind) (s .particulars .deadweight))
+  pub trial : Trialled (s .particulars .method) (s .particulars .trial .power) (s .particulars .trial .deadweight .tonnes) (sum-P-ME (engines-at low (mains (s .particulars .used) (s .engines)))) (Capacity (kind-of (s .particulars .kind)) (deadweight-of (s .particulars .deadweight)))
   pub others : (i : ℕ) → i < 4 → s .particulars .used ≤ i → getD (s .engines) i no-engine ≡ no-engine
 
 -- Rule 11 in the shape of rules 7 and 8.
@@ -254,24 +306,24 @@ supplied method power e =
     let other : method ≡ 1 → power ≡ 0 = λ h. is-zero power (not-with (eqb method 1) _ (j .1) (eq-eqb method 1 h)) in
     (w, record { least = λ h. of h .least; most = cases method 2 (λ h. of h .most) (λ h. omega (arith, other (omega arith))) })
 
-pub right : (s : Ship) → refusal-of s ≡ refusal.None → Right s
-unfolding tests
-right s e =
+pub numbers-accepted : (s : Ship) → refusal-of s ≡ refusal.None → Accepted-numbers s
+numbers-accepted s e =
     let p = s .particulars in
     let es = s .engines in
-    let h = holds s e in
-    let k = engines-inside (p .used) es (h 5) in
-    let u = neither (uses-refused (s .auxiliary)) (any-used (λ e. uses-refused (e .uses)) (p .used) es) (h 6) in
-    let r = neither (range-refused (p .method) (s .speed) || crossed (s .auxiliary .sfc)) (any-used (engine-crossed (p .method)) (p .used) es) (h 10) in
-    let q = neither (range-refused (p .method) (s .speed)) (crossed (s .auxiliary .sfc)) (r .0) in
-    let v = speeded (p .method) (p .kind) (s .speed) (h 9) in
-    let a = supplied (p .auxiliary) (p .table) (h 7) in
+    let q = no-refusal s e in
+    let h = q .early in
+    let k = engines-inside (p .used) es (h .engines) in
+    let u = neither (uses-refused (s .auxiliary)) (any-used (λ e. uses-refused (e .uses)) (p .used) es) (h .consumption) in
+    let r = neither (range-refused (p .method) (s .speed) || crossed (s .auxiliary .sfc)) (any-used (engine-crossed (p .method)) (p .used) es) (h .ranges) in
+    let c = neither (range-refused (p .method) (s .speed)) (crossed (s .auxiliary .sfc)) (r .0) in
+    let v = speeded (p .method) (p .kind) (s .speed) (h .speed) in
+    let a = supplied (p .supply) (p .table) (h .auxiliary) in
     record {
-      imo = inside 1000000 9999999 (p .imo) (neither (outside 1000000 9999999 (p .imo)) _ (h 0) .0);
-      kind = inside 1 7 (p .kind) (h 1);
-      deadweight = inside 100 600000 (p .deadweight .tonnes) (h 2);
-      gross = of-type 7 100 400000 (p .kind) (p .gross .gt) (h 3);
-      volume = of-type 1 100 1000000 (p .kind) (p .volume) (h 4);
+      imo = inside 1000000 9999999 (p .imo) (neither (outside 1000000 9999999 (p .imo)) _ (h .imo) .0);
+      kind = inside 1 (length kinds) (p .kind) (h .kind);
+      deadweight = inside 100 600000 (p .deadweight .tonnes) (h .deadweight);
+      gross = of-type 7 100 400000 (p .kind) (p .gross .gt) (h .gross);
+      cargo = of-type 1 100 1000000 (p .kind) (p .cargo) (h .cargo);
       used = k .0;
       entries = λ i g.
           let four : i < 4 = omega (arith, k .0) in
@@ -281,12 +333,12 @@ right s e =
             mcr = settles (p .method) (getD es i no-engine .mcr) (v .method .most) (c .0);
             uses = metered (getD es i no-engine .uses) (each-used (λ e. uses-refused (e .uses)) (p .used) es (u .1) i four g) (c .1);
           };
-      auxiliary-uses = metered (s .auxiliary) (u .0) (q .1);
+      auxiliary-uses = metered (s .auxiliary) (u .0) (c .1);
       auxiliary = a .0;
       table = a .1;
-      ice = ltb-false 1 (p .ice) (h 8);
+      ice = ltb-false 1 (p .ice) (h .ice);
       speed = v;
-      ends = settles (p .method) (s .speed) (v .method .most) (q .0);
-      trial = trialled p es (v .method) (h 11);
-      others = λ i f g. idle (getD es i no-engine) (each-unused occupied (p .used) es (h 12) i f g);
+      ends = settles (p .method) (s .speed) (v .method .most) (c .0);
+      trial = trialled p es (v .method) (q .trial);
+      others = λ i f g. idle (getD es i no-engine) (each-unused occupied (p .used) es (q .unused) i f g);
     }

@@ -2,15 +2,15 @@
 -- Assumes nothing.
 use Prim.Native.Nat.{ℕ, zero, suc, _+_, _*_, min, _<_}
 use mathlib.Core.Path.{_≡_, refl}
-use mathlib.Core.List.{List, [], _∷_, _++_, map}
+use mathlib.Core.List.{List, [], _∷_}
 use native.Mathlib.Numerals.{add-one}
 use native.Mathlib.Omega.{arith}
-use lib.ListN.{length, getD, take}
-use lib.Seq.{take-suc}
+use lib.ListN.{length, getD}
 use Rattle.exact.specs.Index.{P-ME, sum-P-ME}
-use Rattle.exact.specs.Ranges.{engines-at, low}
+use Rattle.exact.specs.Ship as exact
+use Rattle.exact.specs.Ranges.{Range, engines-at, low}
 use Rattle.ship.specs.Record.{no-engine}
-use Rattle.ship.specs.Figures.{engine-of, mains}
+use Rattle.ship.specs.Figures.{engine-of, entry-at, mains}
 use Rattle.ship.specs.declared.Engine.{Engine}
 
 pub power-limited : (mcr limit : ℕ) → 0 < limit → P-ME mcr limit ≡ min (83 * limit) (75 * mcr)
@@ -22,14 +22,14 @@ pub power-free : (mcr : ℕ) → P-ME mcr 0 ≡ 75 * mcr
 unfolding P-ME
 power-free mcr = refl
 
--- The sum over one engine more.
-summed : List Engine → ℕ
-summed es = sum-P-ME (engines-at low (map engine-of es))
-
-sum-last : (es : List Engine) (e : Engine) → summed (es ++ (e ∷ [])) ≡ summed es + P-ME (e .mcr .low) (e .limit)
-unfolding summed sum-P-ME engines-at engine-of
-sum-last [] e = omega arith
-sum-last (x ∷ es) e = omega (arith, sum-last es e)
+-- A sum F of f over a list of engines, over one engine more.
+module _ (F : List (exact.Engine ℕ) → ℕ) (f : exact.Engine ℕ → ℕ) (none : F [] ≡ 0) (more : (e : exact.Engine ℕ) (es : List (exact.Engine ℕ)) → F (e ∷ es) ≡ f e + F es) (p : Range → ℕ) where
+  pub sum-grows : (i : ℕ) (es : List Engine) → i < length es → F (engines-at p (mains (suc i) es)) ≡ F (engines-at p (mains i es)) + f (entry-at p (getD es i no-engine))
+  unfolding mains engines-at engine-of
+  sum-grows i [] h = absurd (omega arith)
+  sum-grows zero (e ∷ es) h = rw (more, none) (omega arith)
+  sum-grows (suc i) (e ∷ es) h =
+      omega (arith, sum-grows i es (omega arith), more (entry-at p e) (engines-at p (mains (suc i) es)), more (entry-at p e) (engines-at p (mains i es)))
 
 pub sum-none : (es : List Engine) → sum-P-ME (engines-at low (mains 0 es)) ≡ 0
 unfolding mains sum-P-ME engines-at
@@ -37,5 +37,5 @@ sum-none es = refl
 
 pub sum-step : (es : List Engine) (i : ℕ) → i < length es
     → sum-P-ME (engines-at low (mains (i + 1) es)) ≡ sum-P-ME (engines-at low (mains i es)) + P-ME (getD es i no-engine .mcr .low) (getD es i no-engine .limit)
-unfolding mains summed
-sum-step es i h = rw (add-one, take-suc es i no-engine) (sum-last (take i es) (getD es i no-engine))
+unfolding sum-P-ME
+sum-step es i h = rw add-one (sum-grows sum-P-ME (λ e. P-ME (e .mcr) (e .limit)) refl (λ e es. refl) low i es h)

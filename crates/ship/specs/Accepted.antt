@@ -4,9 +4,10 @@ use Prim.Native.Nat.{ℕ, _*_, _≤_}
 use mathlib.Core.Path.{_≡_}
 use mathlib.Core.List.{List, [], _∷_}
 use lib.ListN.{length}
-use Rattle.exact.specs.Ship.{Deadweight, Kind, bulk, gas, tanker, container, refrigerated, combination, vehicle, Consumption, recorded, neither, Engine, Auxiliary, rule, table, Method, declared, trial, design-trial, statistical, Figures}
+use Rattle.exact.specs.Ship.{Deadweight, Kind, bulk, gas, tanker, container, refrigerated, combination, vehicle, Consumption, recorded, neither, Engine, Auxiliary}
+use Rattle.exact.specs.Ship.{rule, table, Method, declared, trial, design-trial, statistical, Figures}
 use Rattle.exact.specs.Ranges.{Range, engines-at, low, high, Settled}
-use Rattle.exact.specs.Index.{if, container?, sum-P-ME}
+use Rattle.exact.specs.Index.{Capacity, sum-P-ME}
 
 pub record Within (lo hi n : ℕ) : Type 0 where
   pub least : lo ≤ n
@@ -40,10 +41,6 @@ abbrev pub Supplied : Auxiliary → Type 0
 Supplied rule = Unit {0}
 Supplied (table kW) = Within 1 50000 kW
 
--- Capacity in hundredths of a tonne.
-abbrev pub hundredths : Kind → Deadweight → ℕ
-hundredths kind d = if (container? kind) (70 * d .tonnes) (100 * d .tonnes)
-
 -- Neither is above 5 times the other.
 pub record Near (a b : ℕ) : Type 0 where
   pub first : a ≤ 5 * b
@@ -68,13 +65,13 @@ pub record Tried (v : Range) (kW P : ℕ) : Type 0 where
 abbrev pub Sailed : Method Range → Kind → Deadweight → ℕ → Type 0
 Sailed (declared speed) kind dwt P = Ends 500 6000 speed
 Sailed (trial speed power) kind dwt P = Tried speed power P
-Sailed (design-trial speed power tested) kind dwt P = Tried speed power P × Near (100 * tested .tonnes) (hundredths kind dwt) × By-design-draught kind
+Sailed (design-trial speed power tested) kind dwt P = Tried speed power P × Near (100 * tested .tonnes) (Capacity kind dwt) × By-design-draught kind
 Sailed statistical kind dwt P = Unit {0}
 
-pub record Accepted (f : Figures Range) : Type 0 where
+pub record Accepted-figures (f : Figures Range) : Type 0 where
   pub deadweight : Within 100 600000 (f .ship .deadweight .tonnes)
   pub gross : f .ship .kind ≡ vehicle → Within 100 400000 (f .ship .gross .gt)
-  pub volume : f .ship .kind ≡ bulk → Within 100 1000000 (f .ship .volume)
+  pub cargo : f .ship .kind ≡ bulk → Within 100 1000000 (f .ship .cargo)
   pub auxiliary : Supplied (f .ship .auxiliary)
   pub auxiliary-uses : Measured (f .auxiliary-uses)
   pub count : Within 1 4 (length (f .engines))

@@ -3,11 +3,11 @@
 use Prim.Native.Nat.{ℕ, _-_}
 use mathlib.Core.Path.{_≡_}
 use mathlib.Core.List.{List, [], _∷_, map}
-use lib.ListN.{getD, take}
+use lib.ListN.{getD, length, take}
 use lib.Dec.{eqb}
 use Rattle.exact.specs.Ship as exact
 use Rattle.exact.specs.Ranges as ranges
-use Rattle.exact.specs.Index.{if}
+use Rattle.formula.specs.Words.{if}
 use Rattle.ship.specs.declared.Deadweight.{Deadweight}
 use Rattle.ship.specs.declared.Range.{Range}
 use Rattle.ship.specs.declared.Consumption.{Consumption}
@@ -17,12 +17,14 @@ use Rattle.ship.specs.declared.Ship.{Ship}
 use Rattle.ship.specs.Accepted.{Within}
 
 -- Types and fuels by number, from 1.
+abbrev pub kinds : List exact.Kind
+kinds = exact.bulk ∷ exact.gas ∷ exact.tanker ∷ exact.container ∷ exact.refrigerated ∷ exact.combination ∷ exact.vehicle ∷ []
+
 abbrev pub kind-of : ℕ → exact.Kind
-kind-of n =
-    getD
-    (exact.bulk ∷ exact.gas ∷ exact.tanker ∷ exact.container ∷ exact.refrigerated ∷ exact.combination ∷ exact.vehicle ∷ [])
-    (n - 1)
-    exact.bulk
+kind-of n = getD kinds (n - 1) exact.bulk
+
+abbrev pub Listed : ℕ → Type 0
+Listed kind = Within 1 (length kinds) kind
 
 abbrev pub fuel-of : ℕ → exact.Fuel
 fuel-of n =
@@ -48,6 +50,10 @@ Fuelled c = (c .source ≡ 3 → ⊥) → Within 1 8 (c .fuel)
 unfoldable pub engine-of : Engine → exact.Engine ranges.Range
 engine-of e = record { mcr = range-of (e .mcr); limit = e .limit; uses = uses-of (e .uses) }
 
+-- An entry at one end of its ranges.
+abbrev pub entry-at : (ranges.Range → ℕ) → Engine → exact.Engine ℕ
+entry-at p e = record { mcr = p (range-of (e .mcr)); limit = e .limit; uses = ranges.uses-at p (uses-of (e .uses)) }
+
 -- The engines that are used.
 unfoldable pub mains : ℕ → List Engine → List (exact.Engine ranges.Range)
 mains used es = map engine-of (take used es)
@@ -55,17 +61,13 @@ mains used es = map engine-of (take used es)
 unfoldable pub auxiliary-of : ℕ → ℕ → exact.Auxiliary
 auxiliary-of method power = if (eqb method 2) (exact.table power) exact.rule
 
--- Speed methods by number, from 1.
-unfoldable pub method-of : ℕ → Range → Trial → exact.Method ranges.Range
-method-of method speed t =
-    getD
-    (exact.declared (range-of speed)
-    ∷ exact.trial (range-of speed) (t .power)
-    ∷ exact.design-trial (range-of speed) (t .power) (deadweight-of (t .deadweight))
-    ∷ exact.statistical
-    ∷ [])
-    (method - 1)
-    exact.statistical
+-- Speed methods by number, from 1, with a speed or a range of it.
+abbrev pub methods : {N : Type 0} → N → Trial → List (exact.Method N)
+methods speed t =
+    exact.declared speed ∷ exact.trial speed (t .power) ∷ exact.design-trial speed (t .power) (deadweight-of (t .deadweight)) ∷ exact.statistical ∷ []
+
+unfoldable pub method-of : {N : Type 0} → ℕ → N → Trial → exact.Method N
+method-of method speed t = getD (methods speed t) (method - 1) exact.statistical
 
 unfoldable pub figures : Ship → exact.Figures ranges.Range
 figures s =
@@ -75,11 +77,11 @@ figures s =
         kind = kind-of (p .kind);
         deadweight = deadweight-of (p .deadweight);
         gross = record { gt = p .gross .gt };
-        volume = p .volume;
-        auxiliary = auxiliary-of (p .auxiliary) (p .table);
+        cargo = p .cargo;
+        auxiliary = auxiliary-of (p .supply) (p .table);
         ice = eqb (p .ice) 1;
       };
       engines = mains (p .used) (s .engines);
       auxiliary-uses = uses-of (s .auxiliary);
-      method = method-of (p .method) (s .speed) (p .trial);
+      method = method-of (p .method) (range-of (s .speed)) (p .trial);
     }

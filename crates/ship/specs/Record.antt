@@ -19,10 +19,10 @@ empty-ship =
         kind = 0;
         deadweight = record { tonnes = 0 };
         gross = record { gt = 0 };
-        volume = 0;
+        cargo = 0;
         method = 0;
         trial = record { power = 0; deadweight = record { tonnes = 0 } };
-        auxiliary = 0;
+        supply = 0;
         table = 0;
         ice = 0;
         used = 0;

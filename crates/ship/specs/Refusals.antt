@@ -3,10 +3,10 @@
 use Prim.Native.Nat.{ℕ}
 use mathlib.Core.List.{List, [], _∷_}
 use mathlib.Core.Bool.{Bool, true, false}
-use lib.Dec.{eqb}
-use Rattle.exact.specs.Index.{if}
+use Rattle.formula.specs.Words.{if}
 use Rattle.ship.specs.declared.Refusal.{Refusal}
-use Rattle.ship.specs.declared.Refusal.the-variants.{None, Length, Check, Layout, ImoNumber, ShipType, Deadweight, GrossTonnage, CargoVolume, Engines, Consumption, AuxiliaryPower, IceClass, Speed, Ranges, Trial, Unused, NoBlock}
+use Rattle.ship.specs.declared.Refusal.the-variants.{None, Length, Check, Layout, ImoNumber, ShipType, Deadweight, GrossTonnage, CargoVolume, Engines}
+use Rattle.ship.specs.declared.Refusal.the-variants.{Consumption, AuxiliaryPower, IceClass, Speed, Ranges, Trial, Unused, NoBlock}
 
 -- The document's number of each refusal; 0 is none.
 abbrev pub number-of : Refusal → ℕ
@@ -40,7 +40,3 @@ pub data First : List (Bool × Refusal) → Refusal → Refusal → Type 0 where
 unfoldable pub first-of : List (Bool × Refusal) → Refusal → Refusal
 first-of [] rest = rest
 first-of (t ∷ ts) rest = if (t .0) (t .1) (first-of ts rest)
-
--- A refusal, or where it is none, what comes after it.
-unfoldable pub or-else : Refusal → Refusal → Refusal
-or-else refusal rest = if (eqb (number-of refusal) 0) rest refusal

@@ -1,15 +1,15 @@
 -- The refusals of a record, 4 to 16: each definition says when its refusal is given, and one list has them in order of checking.
 -- Assumes nothing.
 use Prim.Native.Nat.{ℕ, _+_, _*_, _/_, _%_}
-use mathlib.Core.List.{List, [], _∷_}
-use mathlib.Core.Bool.{Bool, _&&_, _||_, not}
-use lib.ListN.{getD}
+use mathlib.Core.List.{List, [], _∷_, _++_}
+use mathlib.Core.Bool.{Bool, false, _&&_, _||_, not}
+use lib.ListN.{getD, length}
 use lib.Dec.{eqb, ltb, leb}
-use Rattle.exact.specs.Index.{if, sum-P-ME}
+use Rattle.exact.specs.Index.{Capacity, sum-P-ME}
 use Rattle.exact.specs.Ranges.{engines-at, low}
 use Rattle.ship.specs.Record.{no-engine}
 use Rattle.ship.specs.Refusals.{first-of}
-use Rattle.ship.specs.Figures.{mains}
+use Rattle.ship.specs.Figures.{kinds, kind-of, deadweight-of, mains}
 use Rattle.ship.specs.declared.Deadweight.{Deadweight}
 use Rattle.ship.specs.declared.GrossTonnage.{GrossTonnage}
 use Rattle.ship.specs.declared.Range.{Range}
@@ -60,7 +60,7 @@ imo-refused n = outside 1000000 9999999 n || not (eqb (weighted n % 10) (n % 10)
 
 -- 5: type not 1–7.
 abbrev pub type-refused : ℕ → Bool
-type-refused kind = outside 1 7 kind
+type-refused kind = outside 1 (length kinds) kind
 
 -- 6: deadweight not 100–600,000.
 abbrev pub deadweight-refused : Deadweight → Bool
@@ -72,7 +72,7 @@ gross-refused kind g = eqb kind 7 && outside 100 400000 (g .gt) || not (eqb kind
 
 -- 8: cargo volume: type 1 not 100–1,000,000; others not 0.
 abbrev pub volume-refused : ℕ → ℕ → Bool
-volume-refused kind volume = eqb kind 1 && outside 100 1000000 volume || not (eqb kind 1) && nonzero volume
+volume-refused kind cargo = eqb kind 1 && outside 100 1000000 cargo || not (eqb kind 1) && nonzero cargo
 
 -- 9: engines not 1–4; a used MCR end not 100–120,000; a limit neither 0 nor 100 to the low MCR.
 abbrev pub engine-refused : Engine → Bool
@@ -126,10 +126,6 @@ ranges-refused s =
     range-refused (s .particulars .method) (s .speed) || crossed (s .auxiliary .sfc)
     || any-used (engine-crossed (s .particulars .method)) (s .particulars .used) (s .engines)
 
--- Capacity in hundredths of a tonne: deadweight; for container ships 70 % of it.
-abbrev pub capacity : ℕ → Deadweight → ℕ
-capacity kind d = if (eqb kind 4) (70 * d .tonnes) (100 * d .tonnes)
-
 -- A whole number and one of hundredths: either is above 5 times the other.
 abbrev pub apart : ℕ → ℕ → Bool
 apart whole hundredths = ltb (5 * hundredths) (100 * whole) || ltb (5 * (100 * whole)) hundredths
@@ -145,7 +141,7 @@ trial-refused p es =
     (eqb method 1 || eqb method 4) && (nonzero power || nonzero load)
     || (eqb method 2 || eqb method 3) && (outside 1 600000 power || apart power (sum-P-ME (engines-at low (mains (p .used) es))))
     || eqb method 2 && nonzero load
-    || eqb method 3 && (eqb load 0 || apart load (capacity (p .kind) (p .deadweight)))
+    || eqb method 3 && (eqb load 0 || apart load (Capacity (kind-of (p .kind)) (deadweight-of (p .deadweight))))
 
 -- 16: an unused engine entry isn't zero.
 abbrev pub occupied : Engine → Bool
@@ -159,25 +155,45 @@ unused-refused used es = any-unused occupied used es
 
 -- ── In order of checking ────────────────────────────────────────────────────────────────────
 
-unfoldable pub tests : Ship → List (Bool × Refusal)
-tests s =
+-- 4 to 8, of the hull.
+unfoldable pub hull-tests : Ship → List (Bool × Refusal)
+hull-tests s =
     let p = s .particulars in
-    let es = s .engines in
     (imo-refused (p .imo), refusal.ImoNumber)
     ∷ (type-refused (p .kind), refusal.ShipType)
     ∷ (deadweight-refused (p .deadweight), refusal.Deadweight)
     ∷ (gross-refused (p .kind) (p .gross), refusal.GrossTonnage)
-    ∷ (volume-refused (p .kind) (p .volume), refusal.CargoVolume)
-    ∷ (engines-refused (p .used) es, refusal.Engines)
+    ∷ (volume-refused (p .kind) (p .cargo), refusal.CargoVolume)
+    ∷ []
+
+-- 9 to 14, of the machinery and the speed.
+unfoldable pub plant-tests : Ship → List (Bool × Refusal)
+plant-tests s =
+    let p = s .particulars in
+    let es = s .engines in
+    (engines-refused (p .used) es, refusal.Engines)
     ∷ (consumption-refused (s .auxiliary) (p .used) es, refusal.Consumption)
-    ∷ (auxiliary-refused (p .auxiliary) (p .table), refusal.AuxiliaryPower)
+    ∷ (auxiliary-refused (p .supply) (p .table), refusal.AuxiliaryPower)
     ∷ (ice-refused (p .ice), refusal.IceClass)
     ∷ (speed-refused (p .method) (p .kind) (s .speed), refusal.Speed)
     ∷ (ranges-refused s, refusal.Ranges)
-    ∷ (trial-refused p es, refusal.Trial)
-    ∷ (unused-refused (p .used) es, refusal.Unused)
     ∷ []
+
+-- 15 and 16. Whether a byte that must be zero isn't is what a block brings to 16; a record has no such byte.
+unfoldable pub trial-tests : Bool → Ship → List (Bool × Refusal)
+trial-tests zeros s =
+    let p = s .particulars in
+    (trial-refused p (s .engines), refusal.Trial)
+    ∷ (zeros || unused-refused (p .used) (s .engines), refusal.Unused)
+    ∷ []
+
+-- Those that calculate nothing, and all of them.
+abbrev pub early-tests : Ship → List (Bool × Refusal)
+early-tests s = hull-tests s ++ plant-tests s
+
+abbrev pub tests : Bool → Ship → List (Bool × Refusal)
+tests zeros s = early-tests s ++ trial-tests zeros s
 
 -- The first refusal of a record, or none.
 unfoldable pub refusal-of : Ship → Refusal
-refusal-of s = first-of (tests s) refusal.None
+refusal-of s = first-of (tests false s) refusal.None

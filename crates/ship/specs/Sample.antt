@@ -21,10 +21,10 @@ S ice uses speed =
         kind = 1;
         deadweight = record { tonnes = 50000 };
         gross = record { gt = 0 };
-        volume = 60000;
+        cargo = 60000;
         method = 1;
         trial = record { power = 0; deadweight = record { tonnes = 0 } };
-        auxiliary = 1;
+        supply = 1;
         table = 0;
         ice = ice;
         used = 1;

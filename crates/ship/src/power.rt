@@ -5,14 +5,14 @@ ghost use mathlib.Core.Path.{_≡_};
 ghost use mathlib.Core.Bool.{false};
 ghost use Prim.Native.Nat.{ℕ, _*_, _≤_, _<_};
 ghost use lib.ListN.{getD};
-ghost use Rattle.exact.specs.Index.{P-ME, sum-P-ME};
+ghost use Rattle.exact.specs.Index.{Capacity, P-ME, sum-P-ME};
 ghost use Rattle.exact.specs.Ranges.{engines-at, low};
 ghost use Rattle.ship.specs.Record.{no-engine};
-ghost use Rattle.ship.specs.Figures.{mains};
-ghost use Rattle.ship.specs.Rules.{engine-refused, capacity};
+ghost use Rattle.ship.specs.Figures.{Listed, kind-of, deadweight-of, mains};
+ghost use Rattle.ship.specs.Rules.{engine-refused};
 
 // P_ME of one engine, in hundredths of a kW. Rule 9 bounds MCR and limit.
-pub fn power(mcr: u64, limit: u64) -> u64
+pub fn engine_power(mcr: u64, limit: u64) -> u64
     requires { ⌜ (mcr ≤ 120000) × (limit ≤ 120000) ⌝ }
     ensures { λ r. ⌜ (r ≡ P-ME mcr limit) × (r ≤ 9000000) ⌝ }
 {
@@ -34,16 +34,16 @@ pub(crate) fn power_sum(engines: [Engine; 4], used: u64) -> u64
     let mut i: usize = 0;
     while i < n {
         let e = engines[i];
-        sum += power(e.mcr.low, e.limit);
+        sum += engine_power(e.mcr.low, e.limit);
         i += 1;
     }
     sum
 }
 
-// Capacity in hundredths of a tonne. Rule 6 bounds the deadweight.
+// Capacity in hundredths of a tonne. Rules 5 and 6 bound type and deadweight.
 pub fn capacity_of(kind: u64, deadweight: Deadweight) -> u64
-    requires { ⌜ deadweight .tonnes ≤ 600000 ⌝ }
-    ensures { λ r. ⌜ (r ≡ capacity kind deadweight) × (r ≤ 60000000) ⌝ }
+    requires { ⌜ Listed kind × (deadweight .tonnes ≤ 600000) ⌝ }
+    ensures { λ r. ⌜ (r ≡ Capacity (kind-of kind) (deadweight-of deadweight)) × (r ≤ 60000000) ⌝ }
 {
     let t = deadweight.tonnes;
     if kind == 4 { 70 * t } else { 100 * t }

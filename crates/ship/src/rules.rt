@@ -13,23 +13,18 @@ use crate::power::power_sum;
 ghost use mathlib.Core.Path.{_≡_};
 ghost use mathlib.Core.Bool.{false};
 ghost use Prim.Native.Nat.{_≤_};
-ghost use lib.ListN.{take, drop};
-ghost use Rattle.exact.specs.Index.{if};
-ghost use Rattle.ship.specs.Refusals.{or-else, first-of};
-ghost use Rattle.ship.specs.Rules.{imo-refused, type-refused, deadweight-refused, gross-refused, volume-refused, any-used, engine-refused, engines-refused, uses-refused, consumption-refused, auxiliary-refused, ice-refused, speed-refused, range-refused, engine-crossed, ranges-refused, apart, trial-refused, occupied, unused-refused, tests, refusal-of};
+ghost use Rattle.formula.specs.Words.{if};
+ghost use Rattle.ship.specs.Refusals.{first-of};
+ghost use Rattle.ship.specs.Rules.{imo-refused, type-refused, deadweight-refused, gross-refused, volume-refused, any-used, engine-refused, engines-refused};
+ghost use Rattle.ship.specs.Rules.{uses-refused, consumption-refused, auxiliary-refused, ice-refused, speed-refused, range-refused, engine-crossed};
+ghost use Rattle.ship.specs.Rules.{ranges-refused, apart, trial-refused, occupied, unused-refused, hull-tests, plant-tests, trial-tests, early-tests, tests};
+ghost use Rattle.ship.specs.Rules.{refusal-of};
 
 // The refusal where its rule is broken, else what the later rules say.
 pub fn first(broken: bool, refusal: Refusal, rest: Refusal) -> Refusal
     ensures { λ r. ⌜ r ≡ if broken refusal rest ⌝ }
 {
     if broken { refusal } else { rest }
-}
-
-// The refusal, or where it is none, what the later rules say.
-pub fn or(refusal: Refusal, rest: Refusal) -> Refusal
-    ensures { λ r. ⌜ r ≡ or-else refusal rest ⌝ }
-{
-    if number(refusal) == 0 { rest } else { refusal }
 }
 
 // Rule 4.
@@ -67,10 +62,10 @@ fn gross_broken(kind: u64, g: GrossTonnage) -> bool
 }
 
 // Rule 8.
-fn volume_broken(kind: u64, volume: u64) -> bool
-    ensures { λ r. ⌜ r ≡ volume-refused kind volume ⌝ }
+fn volume_broken(kind: u64, cargo: u64) -> bool
+    ensures { λ r. ⌜ r ≡ volume-refused kind cargo ⌝ }
 {
-    (kind == 1) & ((volume < 100) | (1000000 < volume)) | (kind != 1) & (volume != 0)
+    (kind == 1) & ((cargo < 100) | (1000000 < cargo)) | (kind != 1) & (cargo != 0)
 }
 
 // Rule 9, of one engine, and of all.
@@ -204,9 +199,9 @@ fn is_apart(whole: u64, hundredths: u64) -> bool
     (hundredths / 20 < whole) | (whole < (hundredths + 499) / 500)
 }
 
-// Rule 15, of a record whose engines and deadweight broke none.
+// Rule 15, of a record whose type, deadweight and engines broke none.
 fn trial_broken(p: Particulars, es: [Engine; 4]) -> bool
-    requires { ⌜ (deadweight-refused (p .deadweight) ≡ false) × (engines-refused (p .used) es ≡ false) ⌝ }
+    requires { ⌜ (type-refused (p .kind) ≡ false) × (deadweight-refused (p .deadweight) ≡ false) × (engines-refused (p .used) es ≡ false) ⌝ }
     ensures { λ r. ⌜ r ≡ trial-refused p es ⌝ }
 {
     let method = p.method;
@@ -249,13 +244,13 @@ fn unused_broken(used: u64, es: [Engine; 4]) -> bool
 
 // Rules 4 to 8.
 fn hull_refusal(s: Ship, rest: Refusal) -> Refusal
-    ensures { λ r. ⌜ r ≡ first-of (take 5 (tests s)) rest ⌝ }
+    ensures { λ r. ⌜ r ≡ first-of (hull-tests s) rest ⌝ }
 {
     let p = s.particulars;
     let deadweight = p.deadweight;
     let gross = p.gross;
-    let volume = first(volume_broken(p.kind, p.volume), Refusal::CargoVolume, rest);
-    let tonnage = first(gross_broken(p.kind, gross), Refusal::GrossTonnage, volume);
+    let cargo = first(volume_broken(p.kind, p.cargo), Refusal::CargoVolume, rest);
+    let tonnage = first(gross_broken(p.kind, gross), Refusal::GrossTonnage, cargo);
     let weight = first(deadweight_broken(deadweight), Refusal::Deadweight, tonnage);
     let kind = first(type_broken(p.kind), Refusal::ShipType, weight);
     first(imo_broken(p.imo), Refusal::ImoNumber, kind)
@@ -263,7 +258,7 @@ fn hull_refusal(s: Ship, rest: Refusal) -> Refusal
 
 // Rules 9 to 14.
 fn plant_refusal(s: Ship) -> Refusal
-    ensures { λ r. ⌜ r ≡ first-of (take 6 (drop 5 (tests s))) Refusal.None ⌝ }
+    ensures { λ r. ⌜ r ≡ first-of (plant-tests s) Refusal.None ⌝ }
 {
     let p = s.particulars;
     let es = s.engines;
@@ -277,7 +272,7 @@ fn plant_refusal(s: Ship) -> Refusal
     );
     let ice = first(ice_broken(p.ice), Refusal::IceClass, method);
     let table = first(
-        auxiliary_broken(p.auxiliary, p.table),
+        auxiliary_broken(p.supply, p.table),
         Refusal::AuxiliaryPower,
         ice,
     );
@@ -289,24 +284,35 @@ fn plant_refusal(s: Ship) -> Refusal
     first(engines_broken(p.used, es), Refusal::Engines, uses)
 }
 
-// Rules 15 and 16, of a record that broke none of the others.
-fn trial_refusal(s: Ship) -> Refusal
-    requires { ⌜ first-of (take 11 (tests s)) Refusal.None ≡ Refusal.None ⌝ }
-    ensures { λ r. ⌜ r ≡ first-of (drop 11 (tests s)) Refusal.None ⌝ }
+// Rules 15 and 16, of a record that broke none of the others; `zeros` is whether a block has a byte that must be zero and isn't.
+fn trial_refusal(zeros: bool, s: Ship) -> Refusal
+    requires { ⌜ first-of (early-tests s) Refusal.None ≡ Refusal.None ⌝ }
+    ensures { λ r. ⌜ r ≡ first-of (trial-tests zeros s) Refusal.None ⌝ }
 {
     let p = s.particulars;
     let es = s.engines;
-    let unused = first(unused_broken(p.used, es), Refusal::Unused, Refusal::None);
+    let unused = first(
+        zeros | unused_broken(p.used, es),
+        Refusal::Unused,
+        Refusal::None,
+    );
     first(trial_broken(p, es), Refusal::Trial, unused)
 }
 
-// The first rule that a record breaks, or none. Rule 15 calculates, so it waits until the others hold.
-pub fn refusal(s: Ship) -> Refusal
-    ensures { λ r. ⌜ r ≡ refusal-of s ⌝ }
+// The first rule from 4 on that is broken, or none. Rule 15 calculates, so it waits until the others hold.
+pub fn first_broken(zeros: bool, s: Ship) -> Refusal
+    ensures { λ r. ⌜ r ≡ first-of (tests zeros s) Refusal.None ⌝ }
 {
     let early = hull_refusal(s, plant_refusal(s));
     if number(early) != 0 {
         return early;
     }
-    trial_refusal(s)
+    trial_refusal(zeros, s)
+}
+
+// The first rule that a record breaks, or none.
+pub fn refusal(s: Ship) -> Refusal
+    ensures { λ r. ⌜ r ≡ refusal-of s ⌝ }
+{
+    first_broken(false, s)
 }

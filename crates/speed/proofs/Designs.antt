@@ -1,29 +1,30 @@
 -- Method 3: the cube root of k, and the trial's deadweight over Capacity to the power 2/9. Assumes nothing.
 use mathlib.Core.Path.{_≡_, refl}
 use mathlib.Core.Bool.{Bool, true, false}
-use Prim.Native.Nat.{ℕ, _+_, _*_, _/_, _^_, _≤_, _<_}
+use Prim.Native.Nat.{ℕ, _+_, _*_, _^_, _≤_, _<_}
 use native.Mathlib.Nat.{le-trans, le-refl, mul-pos, mul-le-mul, mul-le-mul-left, mul-le-mul-right, le-of-mul-le-mul-right, suc-pred-eq-of-pos}
 use native.Mathlib.Omega.{arith}
 use lib.Dec.{leb, lit<, lit≤}
 use borrow.Author.Tests.{leb-true, leb-false}
-use Rattle.exact.specs.Formula.{_//_, _≼_, _·_, Side, below, above, other, at-most, at-least, Formula, lit, _⊗_, _⊘_, _↑_, bounds, by-lit, by-product, by-quotient, by-power, Enclosed}
+use Rattle.formula.specs.Formula.{_//_, _·_, Side, below, above, other, at-most, at-least, Formula, lit, _⊗_, _⊘_, _↑_, bounds, by-lit, by-product, by-quotient, by-power}
 use Rattle.exact.specs.Ship.{Deadweight, Kind, bulk, gas, tanker, container, refrigerated, combination, vehicle, design-trial}
-use Rattle.exact.specs.Index.{whole, percent, if, Capacity, V-ref}
+use Rattle.formula.specs.Words.{whole, percent, if}
+use Rattle.exact.specs.Index.{Capacity, V-ref}
 use Rattle.exact.specs.Index as rules
-use Rattle.exact.proofs.Fractions.{_≈_, lies-refl, lies-≈}
-use Rattle.number.specs.Division.{Floor, Ceil, ceilOf}
+use Rattle.formula.proofs.Fractions.{_≈_, lies-refl, lies-≈}
+use Rattle.number.specs.Division.{Floor, Ceil}
 use Rattle.number.proofs.Divisions.{floor-is, ceil-is, floor-greatest, ceil-least}
+use Rattle.number.proofs.Gaps.{Gap, gap-product, gap-times, gap-cut}
 use Rattle.power.specs.declared.Bounds.{Bounds}
 use Rattle.power.specs.Numbers.{unit}
-use Rattle.power.specs.Power.{BoundsPower, Raisable, powerOf, Power}
-use Rattle.power.proofs.Laws.{in-words, rescaled, inverted, capped, power-law}
-use Rattle.ship.specs.Accepted.{Within, Near, By-design-draught, hundredths}
-use Rattle.plant.proofs.Values.{capacity-exact}
-use Rattle.plant.proofs.Growth.{capacity-within}
+use Rattle.power.specs.Power.{BoundsPower, Raisable, power-of, Power}
+use Rattle.power.proofs.Laws.{in-words, capped, power-law}
+use Rattle.ship.specs.Accepted.{Within, Near, By-design-draught}
+use Rattle.exact.proofs.Rules.{Capacity-between}
 use Rattle.speed.specs.declared.Split.{Split}
-use Rattle.speed.specs.Speeds.{pair, undivided, timesOf, Parted, Factor, Fives, kRootOf, upOf, downOf, partsOf, designOf, Speed}
-use Rattle.speed.proofs.Products.{product-is, chain}
-use Rattle.speed.proofs.Sides.{at}
+use Rattle.speed.specs.Speeds.{pair, times-of, Parted, Factor, Fives, k-root-of, up-of, down-of, parts-of, design-of, Speed}
+use Rattle.speed.proofs.Products.{product-is}
+use Rattle.speed.proofs.Sides.{at, Upto, some-at, power-at, inverse-at, farther}
 use Rattle.speed.proofs.Trials.{measured, trial-moderate}
 
 -- ── The cube root of k ──────────────────────────────────────────────────────────────────────
@@ -36,48 +37,40 @@ module _ (n : ℕ) (w : Within 90 100 n) where
   pub k-raisable : Raisable 100 n 1 3
   k-raisable = record { some = omega (arith, w .least); from-one = w .most; moderate = omega (arith, w .least); small = lit< tt; part = lit< tt; fine = lit< tt }
 
-  pub k-root : KRoot n (kRootOf n)
-  unfolding kRootOf
-  k-root = go (powerOf 100 n 1 3) (power-law k-raisable)
+  some : 0 < n
+  some = omega (arith, w .least)
+
+  law : Power 100 n 1 3 (power-of 100 n 1 3)
+  law = power-law k-raisable
+
+  root-some : (s : Side) → 0 < at s (power-of 100 n 1 3)
+  root-some = some-at (omega (arith, law .low)) (law .order)
+
+  pub k-root : KRoot n (k-root-of n)
+  unfolding k-root-of
+  k-root = go (power-of 100 n 1 3) law (floor-is _ _ (root-some above)) (ceil-is _ _ (root-some below))
     where
-      ended : (lo hi : ℕ) → hi * 134217728 ≤ (lo + 1) * 134217729 + 134217728 → hi * 2 ^ 27 ≤ (lo + 2) * (2 ^ 27 + 1)
-      ended lo hi h = omega arith
+      -- x over w' rounded down and x over w rounded up.
+      quotients : (x w w' lo hi : ℕ) → 0 < w → w' * 2 ^ 27 ≤ w * (2 ^ 27 + 1) → x < (lo + 1) * w' → hi * w < x + w → hi * 2 ^ 27 ≤ (lo + 2) * (2 ^ 27 + 1)
+      quotients x w w' lo hi pos over f g = le-of-mul-le-mul-right {k = w} (omega (arith, mul-le-mul-left (lo + 1) over)) pos
 
-      go : (y : Bounds) → Power 100 n 1 3 y → KRoot n (pair (1073741824000000000 / y .hi) (ceilOf 1073741824000000000 (y .lo)))
-      go y p = parts (floor-is 1073741824000000000 (y .hi) pos') (ceil-is 1073741824000000000 (y .lo) pos)
-        where
-          pos : 0 < y .lo
-          pos = omega (arith, p .low)
-
-          pos' : 0 < y .hi
-          pos' = omega (arith, p .low, p .order)
-
-          some : 0 < n
-          some = omega (arith, w .least)
-
-          small : y .lo * 9 ≤ 10 * unit
-          small = capped (y .lo) unit 100 n 1 3 10 9 10 9 (lit< tt) some (lit< tt) (lit< tt) (lit< tt) (omega (arith, w .least)) (lit≤ tt) (p .encloses-below)
-
-          parts : {lo hi : ℕ} → Floor 1073741824000000000 (y .hi) lo → Ceil 1073741824000000000 (y .lo) hi → KRoot n (pair lo hi)
-          parts {lo} {hi} f c =
-              record {
-                holds = holds;
-                size =
-                    record {
-                      near = ended lo hi (chain 1073741824000000000 1073741824000000000 (y .lo) (y .hi) 1 lo hi 1 1 (2 ^ 27) (2 ^ 27 + 1) (omega arith) (le-refl _) (p .near) (omega (arith, f .next-above)) (omega (arith, c .previous-below)));
-                      low = floor-greatest f 890000000 (omega (arith, p .near, small));
-                      order = le-of-mul-le-mul-right {k = y .lo} (omega (arith, f .at-most, c .at-least, mul-le-mul-left lo (p .order))) pos;
-                      high = ceil-least c 1000000000 (omega (arith, p .low));
-                    };
-              }
-            where
-              holds : (s : Side) → BoundsPower s (at s (pair lo hi)) 1000000000 n 100 1 3
-              holds below =
-                  let c : lo // 1000000000 ≼ unit // y .hi = record { cross = rw (suc-pred-eq-of-pos pos') (omega (arith, f .at-most)) } in
-                  rescaled below unit (y .hi) lo 1000000000 n 100 1 3 (at-most c) (inverted above (y .hi) unit 100 n 1 3 pos' (lit< tt) (lit< tt) some (lit< tt) (p .encloses-above))
-              holds above =
-                  let c : unit // y .lo ≼ hi // 1000000000 = record { cross = rw (suc-pred-eq-of-pos pos) (omega (arith, c .at-least)) } in
-                  rescaled above unit (y .lo) hi 1000000000 n 100 1 3 (at-least c) (inverted below (y .lo) unit 100 n 1 3 pos (lit< tt) (lit< tt) some (lit< tt) (p .encloses-below))
+      go : (y : Bounds) → Power 100 n 1 3 y → {lo hi : ℕ} → Floor 1073741824000000000 (y .hi) lo → Ceil 1073741824000000000 (y .lo) hi → KRoot n (pair lo hi)
+      go y p {lo} {hi} f c =
+          let pos : 0 < y .lo = omega (arith, p .low) in
+          let small : y .lo * 9 ≤ 10 * unit =
+          capped (y .lo) unit 100 n 1 3 10 9 10 9 (lit< tt) some (lit< tt) (lit< tt) (lit< tt) (omega (arith, w .least)) (lit≤ tt) (p .encloses-below) in
+          record {
+            holds =
+                λ s. farther s unit _ _ 1000000000 n 100 1 3 (lit< tt) (some-at pos (p .order) (other s)) (elim s [ below ↦ f .at-most | above ↦ c .at-least ])
+                (inverse-at (lit< tt) some (lit< tt) p s);
+            size =
+                record {
+                  near = quotients 1073741824000000000 (y .lo) (y .hi) lo hi pos (p .near) (f .next-above) (c .previous-below);
+                  low = floor-greatest f 890000000 (omega (arith, p .near, small));
+                  order = le-of-mul-le-mul-right {k = y .lo} (omega (arith, f .at-most, c .at-least, mul-le-mul-left lo (p .order))) pos;
+                  high = ceil-least c 1000000000 (omega (arith, p .low));
+                };
+          }
 
 either : (b : Bool) {m n : ℕ} → Within 90 100 m → Within 90 100 n → Within 90 100 (if b m n)
 either true h k = h
@@ -100,7 +93,7 @@ pub fives-raisable : {a b : ℕ} → Fives a b → b ≤ a → Raisable a b 2 9
 fives-raisable f h = record { some = f .b-low; from-one = h; moderate = omega (arith, f .near .first); small = f .a-high; part = lit< tt; fine = lit< tt }
 
 pub turned : {a b : ℕ} → Fives a b → Fives b a
-turned f = record { a-low = f .b-low; b-low = f .a-low; a-high = f .b-high; b-high = f .a-high; near = record { first = f .near .second; second = f .near .first } }
+turned f = omega (arith, f)
 
 -- The power 2/9 of at most 5 is at most 2.
 module _ {a b : ℕ} {x : Bounds} (f : Fives a b) (w : Power a b 2 9 x) where
@@ -110,12 +103,12 @@ module _ {a b : ℕ} {x : Bounds} (f : Fives a b) (w : Power a b 2 9 x) where
   pub two' : x .hi ≤ 2 ^ 31 + 16
   two' = omega (arith, two, w .near)
 
-pub up-fits : {g : Bounds} {a b : ℕ} → Factor g → Fives a b → b ≤ a → (g .lo * powerOf a b 2 9 .lo ≤ 2 ^ 61) × (g .hi * powerOf a b 2 9 .hi ≤ 2 ^ 61)
+pub up-fits : {g : Bounds} {a b : ℕ} → Factor g → Fives a b → b ≤ a → (g .lo * power-of a b 2 9 .lo ≤ 2 ^ 61) × (g .hi * power-of a b 2 9 .hi ≤ 2 ^ 61)
 up-fits c f h =
     let p = power-law (fives-raisable f h) in
     (le-trans (mul-le-mul (le-trans (c .order) (c .high)) (two f p)) (lit≤ tt), le-trans (mul-le-mul (c .high) (two' f p)) (lit≤ tt))
 
--- v f / 100 rounded down and up, where f' is at most 2.3 hundred-millionths above f.
+-- v f / 100 rounded down and up, where f' is at most 2.5 hundred-millionths above f.
 pub record Based (p : Bounds) : Type 0 where
   pub low : 1000000000 ≤ p .lo
   pub order : p .lo ≤ p .hi
@@ -129,49 +122,29 @@ pub record Close (f : Bounds) : Type 0 where
   pub order : f .lo ≤ f .hi
   pub high : f .lo ≤ 2000000000
   pub high' : f .hi ≤ 2000000100
-  pub near : f .hi * 1000000000 ≤ f .lo * 1000000023
+  pub near : Gap 25000 (f .lo) (f .hi)
 
-hundredths-near : (x x' p p' : ℕ) → 445000000000 ≤ x → x' * 1000000000 ≤ x * 1000000023 → x < (p + 1) * 100 → p' * 100 < x' + 100 → p' * 100000000 ≤ p * 100000003
-hundredths-near x x' p p' low near f c = omega arith
+hundredths : {x x' : ℕ} {p : Bounds} → 445000000000 ≤ x → x ≤ x' → x ≤ 12000000000000 → x' ≤ 12000000600000 → Gap 25000 x x' → Floor x 100 (p .lo) → Ceil x' 100 (p .hi) → Based p
+hundredths low order high high' near fl ce = omega arith
 
 pub based : {v : ℕ} {f p : Bounds} → Within 500 6000 v → Close f → Floor (v * f .lo) 100 (p .lo) → Ceil (v * f .hi) 100 (p .hi) → Based p
-based {v} {f} {p} w c fl ce =
-    let low : 445000000000 ≤ v * f .lo = mul-le-mul (w .least) (c .low) in
-    let high : v * f .lo ≤ 12000000000000 = mul-le-mul (w .most) (c .high) in
-    let high' : v * f .hi ≤ 12000000600000 = mul-le-mul (w .most) (c .high') in
-    let order = mul-le-mul-left v (c .order) in
-    let near = mul-le-mul-left v (c .near) in
-    record {
-      low = omega (arith, fl .next-above);
-      order = omega (arith, fl .at-most, ce .at-least);
-      high = omega (arith, ce .previous-below);
-      near = hundredths-near (v * f .lo) (v * f .hi) (p .lo) (p .hi) low (omega (arith, near)) (fl .next-above) (ce .previous-below);
-      fast = omega (arith, ce .at-least);
-      slow = omega (arith, fl .at-most);
-    }
+based {v} w c =
+    hundredths (mul-le-mul (w .least) (c .low)) (mul-le-mul-left v (c .order)) (mul-le-mul (w .most) (c .high)) (mul-le-mul (w .most) (c .high')) (gap-times v (c .near))
 
 -- The factor alone is close enough, and so is the factor times the power.
 pub factor-close : {g : Bounds} → Factor g → Close g
-factor-close c = record { low = c .low; order = c .order; high = omega (arith, c .order, c .high); high' = omega (arith, c .high); near = omega (arith, c .near, c .low) }
+factor-close c = omega (arith, c)
 
-ended : (f f' A B : ℕ) → 0 < A → B * 1000000000 ≤ A * 1000000015 → 890000000 ≤ f → f' * A ≤ (f + 5) * B + A → f' * 1000000000 ≤ f * 1000000023
-ended f f' A B pos k low h =
-    let m : (f + 5) * (B * 1000000000) ≤ (f + 5) * (A * 1000000015) = mul-le-mul-left (f + 5) k in
-    let n : f' * 1000000000 ≤ (f + 5) * 1000000015 + 1000000000 = le-of-mul-le-mul-right {k = A} (omega arith) pos in
-    omega arith
-
-pub times-close : {g x f : Bounds} → Factor g → 2 ^ 30 ≤ x .lo → x .lo ≤ 2 ^ 31 → x .hi ≤ 2 ^ 31 + 16 → x .lo ≤ x .hi → x .hi * 2 ^ 27 ≤ x .lo * (2 ^ 27 + 1)
-    → Floor (g .lo * x .lo) (2 ^ 30) (f .lo) → Ceil (g .hi * x .hi) (2 ^ 30) (f .hi) → Close f
-times-close {g} {x} {f} c xl xh xh' xo xn fl ce =
-    let low : 890000000 ≤ f .lo = omega (arith, mul-le-mul-left (g .lo) xl, c .low, fl .next-above) in
-    let m : g .hi * 134217728 * (x .hi * 134217728) ≤ (g .lo + 2) * 134217729 * (x .lo * 134217729) = mul-le-mul (c .near) xn in
-    let n : f .hi * 18014398509481984 ≤ (f .lo + 5) * 18014398777917441 + 18014398509481984 = omega (arith, fl .next-above, ce .previous-below) in
+pub times-close : {g x f : Bounds} {a b : ℕ} → Factor g → Fives a b → Power a b 2 9 x → Floor (g .lo * x .lo) (2 ^ 30) (f .lo) → Ceil (g .hi * x .hi) (2 ^ 30) (f .hi) → Close f
+times-close {g} {x} {f} c near p fl ce =
+    let low : 890000000 ≤ f .lo = floor-greatest fl 890000000 (mul-le-mul (c .low) (p .low)) in
+    let gap : Gap 17152 (g .lo * x .lo) (g .hi * x .hi) = gap-product {j = 9700} {k = 7451} 1 (lit≤ tt) (omega (arith, c .near, c .low)) (omega (arith, p .near)) in
     record {
       low = low;
-      order = omega (arith, mul-le-mul (c .order) xo, fl .at-most, ce .at-least);
-      high = omega (arith, mul-le-mul (le-trans (c .order) (c .high)) xh, fl .at-most);
-      high' = omega (arith, mul-le-mul (c .high) xh', ce .previous-below);
-      near = ended (f .lo) (f .hi) 18014398509481984 18014398777917441 (lit< tt) (lit≤ tt) low n;
+      order = omega (arith, mul-le-mul (c .order) (p .order), fl .at-most, ce .at-least);
+      high = omega (arith, mul-le-mul (le-trans (c .order) (c .high)) (two near p), fl .at-most);
+      high' = ceil-least ce 2000000100 (le-trans (mul-le-mul (c .high) (two' near p)) (lit≤ tt));
+      near = gap-cut 7848 (lit< tt) gap fl ce (omega arith);
     }
 
 -- base over over is v, in 1/100 knot, times g, in 10^-9, times (a/b)^(2/9).
@@ -182,105 +155,74 @@ pub record DesignParts (v : ℕ) (g : Bounds) (a b : ℕ) (p : Split) : Type 0 w
   pub slow : p .base .lo ≤ 120000000000
   pub thin : p .over .lo ≤ 2 ^ 31
 
-parted-by : {p : Split} → Based (p .base) → 2 ^ 30 ≤ p .over .lo → p .over .lo ≤ p .over .hi → p .over .hi ≤ 2 ^ 51 → p .over .hi * 2 ^ 27 ≤ p .over .lo * (2 ^ 27 + 1) → Parted p
-parted-by b l o h n = record { low = b .low; order = b .order; high = b .high; near = b .near; over-low = l; over-order = o; over-high = h; over-near = n }
-
 module _ {v : ℕ} {g : Bounds} {a b : ℕ} (w : Within 500 6000 v) (c : Factor g) (f : Fives a b) where
-  vpos : 0 < v
-  vpos = omega (arith, w .least)
-
-  pub up-parts : b ≤ a → DesignParts v g a b (upOf v g a b)
-  unfolding upOf
-  up-parts h = go (powerOf a b 2 9) (power-law (fives-raisable f h))
+  -- v times h over o, where h over o is g times a bound t / u of the power.
+  designed : {h o : Bounds} (t u : Side → ℕ) → Close h → 2 ^ 30 ≤ o .lo → o .lo ≤ o .hi → o .hi ≤ 2 ^ 51 → o .hi * 2 ^ 27 ≤ o .lo * (2 ^ 27 + 1) → o .lo ≤ 2 ^ 31
+      → ((s : Side) → 0 < u s) → ((s : Side) → Upto s (at s h * 2 ^ 30 * u s) (t s * at s g * at (other s) o)) → ((s : Side) → BoundsPower s (t s) (u s) a b 2 9)
+      → DesignParts v g a b (record { base = times-of v h; over = o })
+  designed {h} {o} t u close low order high near thin some part bound = go (floor-is _ 100 (lit< tt)) (ceil-is _ 100 (lit< tt))
     where
-      go : (x : Bounds) → Power a b 2 9 x → DesignParts v g a b (undivided (timesOf v (pair (g .lo * x .lo / 2 ^ 30) (ceilOf (g .hi * x .hi) (2 ^ 30)))))
-      go x p = parts (floor-is _ (2 ^ 30) (lit< tt)) (ceil-is _ (2 ^ 30) (lit< tt)) (floor-is _ 100 (lit< tt)) (ceil-is _ 100 (lit< tt))
+      product-some : (s : Side) → 0 < v * at s g * at (other s) o
+      product-some s =
+          mul-pos (mul-pos {m = v} (omega (arith, w .least)) (some-at (omega (arith, c .low)) (c .order) s)) (some-at (omega arith) order (other s))
+
+      go : {l r : ℕ} → Floor (v * h .lo) 100 l → Ceil (v * h .hi) 100 r → DesignParts v g a b (record { base = pair l r; over = o })
+      go {l} {r} fl ce =
+          let base : Based (pair l r) = based {f = h} w close fl ce in
+          record {
+            holds = λ s. farther s (t s) (u s) _ _ a b 2 9 (product-some s) (some s) (cross s) (bound s);
+            parted =
+                record { low = base .low; order = base .order; high = base .high; near = base .near; over-low = low; over-order = order; over-high = high; over-near = near };
+            fast = base .fast;
+            slow = base .slow;
+            thin = thin;
+          }
         where
-          parts : {q q' l u : ℕ} → Floor (g .lo * x .lo) (2 ^ 30) q → Ceil (g .hi * x .hi) (2 ^ 30) q' → Floor (v * q) 100 l → Ceil (v * q') 100 u → DesignParts v g a b (undivided (pair l u))
-          parts {q} {q'} {l} {u} fl ce bl bh =
-              let based-on : Based (pair l u) = based {f = pair q q'} w (times-close c (p .low) (two f p) (two' f p) (p .order) (p .near) fl ce) bl bh in
-              record {
-                holds = holds;
-                parted = parted-by based-on (le-refl _) (le-refl _) (lit≤ tt) (lit≤ tt);
-                fast = based-on .fast;
-                slow = based-on .slow;
-                thin = lit≤ tt;
-              }
-            where
-              holds : (s : Side) → BoundsPower s (at s (pair l u) * 100 * 2 ^ 30) (v * at s g * at (other s) (pair (2 ^ 30) (2 ^ 30))) a b 2 9
-              holds below =
-                  let z : 0 < v * g .lo * 2 ^ 30 = omega (arith, mul-pos {m = v} {n = g .lo} vpos (omega (arith, c .low))) in
-                  let y : (l * 100 * 2 ^ 30) // (v * g .lo * 2 ^ 30) ≼ x .lo // unit = record { cross = rw (suc-pred-eq-of-pos z) (omega (arith, bl .at-most, mul-le-mul-left v (fl .at-most))) } in
-                  rescaled below (x .lo) unit _ _ a b 2 9 (at-most y) (p .encloses-below)
-              holds above =
-                  let z : 0 < v * g .hi * 2 ^ 30 = omega (arith, mul-pos {m = v} {n = g .hi} vpos (omega (arith, c .low, c .order))) in
-                  let y : x .hi // unit ≼ (u * 100 * 2 ^ 30) // (v * g .hi * 2 ^ 30) = record { cross = rw (suc-pred-eq-of-pos z) (omega (arith, bh .at-least, mul-le-mul-left v (ce .at-least))) } in
-                  rescaled above (x .hi) unit _ _ a b 2 9 (at-least y) (p .encloses-above)
+          cross : (s : Side) → Upto s (at s (pair l r) * 100 * 2 ^ 30 * u s) (t s * (v * at s g * at (other s) o))
+          cross below = omega (arith, mul-le-mul-right (2 ^ 30 * u below) (fl .at-most), mul-le-mul-left v (part below))
+          cross above = omega (arith, mul-le-mul-right (2 ^ 30 * u above) (ce .at-least), mul-le-mul-left v (part above))
 
-  pub down-parts : a ≤ b → DesignParts v g a b (downOf v g a b)
-  unfolding downOf
-  down-parts h = go (powerOf b a 2 9) (power-law (fives-raisable (turned f) h))
-    where
-      go : (x : Bounds) → Power b a 2 9 x → DesignParts v g a b (record { base = timesOf v g; over = x })
-      go x p = parts (floor-is _ 100 (lit< tt)) (ceil-is _ 100 (lit< tt))
-        where
-          pos : 0 < x .lo
-          pos = omega (arith, p .low)
+  pub up-parts : b ≤ a → DesignParts v g a b (up-of v g a b)
+  unfolding up-of
+  up-parts h =
+      let x = power-of a b 2 9 in
+      let p = power-law (fives-raisable f h) in
+      let fl = floor-is (g .lo * x .lo) (2 ^ 30) (lit< tt) in
+      let ce = ceil-is (g .hi * x .hi) (2 ^ 30) (lit< tt) in
+      designed (λ s. at s x) (λ s. unit) (times-close c f p fl ce) (le-refl _) (le-refl _) (lit≤ tt) (lit≤ tt) (lit≤ tt) (λ s. lit< tt)
+      (λ s. elim s [ below ↦ omega (arith, fl .at-most) | above ↦ omega (arith, ce .at-least) ]) (power-at p)
 
-          pos' : 0 < x .hi
-          pos' = omega (arith, p .low, p .order)
+  pub down-parts : a ≤ b → DesignParts v g a b (down-of v g a b)
+  unfolding down-of
+  down-parts h =
+      let x = power-of b a 2 9 in
+      let p = power-law (fives-raisable (turned f) h) in
+      designed (λ s. unit) (λ s. at (other s) x) (factor-close c) (p .low) (p .order) (p .high) (p .near) (two (turned f) p)
+      (λ s. some-at (omega (arith, p .low)) (p .order) (other s)) (λ s. elim s [ below ↦ omega arith | above ↦ omega arith ]) (inverse-at (f .b-low) (f .a-low) (lit< tt) p)
 
-          parts : {l u : ℕ} → Floor (v * g .lo) 100 l → Ceil (v * g .hi) 100 u → DesignParts v g a b (record { base = pair l u; over = x })
-          parts {l} {u} bl bh =
-              let based-on : Based (pair l u) = based {f = g} w (factor-close c) bl bh in
-              record {
-                holds = holds;
-                parted = parted-by based-on (p .low) (p .order) (p .high) (p .near);
-                fast = based-on .fast;
-                slow = based-on .slow;
-                thin = two (turned f) p;
-              }
-            where
-              holds : (s : Side) → BoundsPower s (at s (pair l u) * 100 * 2 ^ 30) (v * at s g * at (other s) x) a b 2 9
-              holds below =
-                  let z : 0 < v * g .lo * x .hi = mul-pos (mul-pos vpos (omega (arith, c .low))) pos' in
-                  let y : (l * 100 * 2 ^ 30) // (v * g .lo * x .hi) ≼ unit // x .hi = record { cross = rw (suc-pred-eq-of-pos z, suc-pred-eq-of-pos pos') (omega (arith, mul-le-mul-right (x .hi) (bl .at-most))) } in
-                  rescaled below unit (x .hi) _ _ a b 2 9 (at-most y) (inverted above (x .hi) unit b a 2 9 pos' (lit< tt) (f .b-low) (f .a-low) (lit< tt) (p .encloses-above))
-              holds above =
-                  let z : 0 < v * g .hi * x .lo = mul-pos (mul-pos vpos (omega (arith, c .low, c .order))) pos in
-                  let y : unit // x .lo ≼ (u * 100 * 2 ^ 30) // (v * g .hi * x .lo) = record { cross = rw (suc-pred-eq-of-pos z, suc-pred-eq-of-pos pos) (omega (arith, mul-le-mul-right (x .lo) (bh .at-least))) } in
-                  rescaled above unit (x .lo) _ _ a b 2 9 (at-least y) (inverted below (x .lo) unit b a 2 9 pos (lit< tt) (f .b-low) (f .a-low) (lit< tt) (p .encloses-below))
-
-  pub parts : DesignParts v g a b (partsOf v g a b)
-  unfolding partsOf
+  pub parts : DesignParts v g a b (parts-of v g a b)
+  unfolding parts-of
   parts = go (leb b a) refl
     where
-      go : (t : Bool) → leb b a ≡ t → DesignParts v g a b (if t (upOf v g a b) (downOf v g a b))
+      go : (t : Bool) → leb b a ≡ t → DesignParts v g a b (if t (up-of v g a b) (down-of v g a b))
       go true e = up-parts (leb-true b a e)
       go false e = down-parts (omega (arith, leb-false b a e))
 
 -- ── The formula ─────────────────────────────────────────────────────────────────────────────
 
--- The trial's deadweight over Capacity, which is C in hundredths.
-over-capacity : (c : Formula) (t C : ℕ) → 0 < C → Enclosed c (C // 100) (C // 100) → (s : Side) → bounds s (whole t ⊘ c) ((t * 100) // C)
-over-capacity c t C pos e = side
-  where
-    same : (t * 100) // C · C // 100 ≈ t // 1
-    same = record { cross = rw (suc-pred-eq-of-pos pos) (omega arith) }
-
-    side : (s : Side) → bounds s (whole t ⊘ c) ((t * 100) // C)
-    side below = by-quotient (by-lit (lies-refl below _)) (e .high) pos (lies-≈ below same)
-    side above = by-quotient (by-lit (lies-refl above _)) (e .low) pos (lies-≈ above same)
+-- The trial's deadweight over Capacity, which is C in Capacity.
+over-capacity : (t C : ℕ) → 0 < C → (s : Side) → bounds s (whole t ⊘ lit (C // 100)) ((t * 100) // C)
+over-capacity t C pos s =
+    let same : (t * 100) // C · C // 100 ≈ t // 1 = record { cross = rw (suc-pred-eq-of-pos pos) (omega arith) } in
+    by-quotient (by-lit (lies-refl s _)) (by-lit (lies-refl (other s) _)) pos (lies-≈ s same)
 
 -- k^(1/3) times T^(2/9) times v, where T is a / b.
 module _ {T : Formula} {n v a b : ℕ} {g : Bounds} {p : Split} (e : (s : Side) → bounds s T (a // b)) (r : KRoot n g) (x : DesignParts v g a b p) (vpos : 0 < v) where
   factor-some : (s : Side) → 0 < at s g
-  factor-some below = omega (arith, r .size .low)
-  factor-some above = omega (arith, r .size .low, r .size .order)
+  factor-some = some-at (omega (arith, r .size .low)) (r .size .order)
 
   over-some : (s : Side) → 0 < at s (p .over)
-  over-some below = omega (arith, x .parted .over-low)
-  over-some above = omega (arith, x .parted .over-low, x .parted .over-order)
+  over-some = some-at (omega (arith, x .parted .over-low)) (x .parted .over-order)
 
   parts-side : (s : Side) → bounds s (percent n ↑ (1 // 3) ⊗ T ↑ (2 // 9) ⊗ lit (v // 100)) ((at s (p .base) * 2 ^ 30) // (at (other s) (p .over) * 1000000000))
   parts-side s =
@@ -298,27 +240,20 @@ module _ {T : Formula} {n v a b : ℕ} {g : Bounds} {p : Split} (e : (s : Side) 
           let z' : 0 < w * 1000000000 = omega arith in
           record { cross = rw (suc-pred-eq-of-pos z, suc-pred-eq-of-pos z') (omega arith) }
 
-module _ {v kW P : ℕ} (tested : Deadweight) (kind : Kind) (dwt : Deadweight) (w : Within 500 6000 v) (pos : 1 ≤ kW) (top : P ≤ 36000000) (near : Near (100 * kW) P)
-    (heavy : Within 100 600000 (dwt .tonnes)) (loaded : Near (100 * tested .tonnes) (hundredths kind dwt)) (draught : By-design-draught kind) where
-  pub fives : Fives (tested .tonnes * 100) (hundredths kind dwt)
-  fives =
-      let c = capacity-within kind dwt heavy in
-      record {
-        a-low = omega (arith, c .least, loaded .second);
-        b-low = omega (arith, c .least);
-        a-high = omega (arith, c .most, loaded .first);
-        b-high = omega (arith, c .most);
-        near = record { first = omega (arith, loaded .first); second = omega (arith, loaded .second) };
-      }
+module _ (tested : Deadweight) (kind : Kind) (dwt : Deadweight) (heavy : Within 100 600000 (dwt .tonnes)) (loaded : Near (100 * tested .tonnes) (Capacity kind dwt)) where
+  pub fives : Fives (tested .tonnes * 100) (Capacity kind dwt)
+  fives = omega (arith, Capacity-between kind dwt, heavy, loaded)
 
-  root : KRoot (rules.k kind dwt) (kRootOf (rules.k kind dwt))
-  root = k-root (rules.k kind dwt) (k-within kind dwt draught)
+  module _ {v : ℕ} (w : Within 500 6000 v) (draught : By-design-draught kind) where
+    root : KRoot (rules.k kind dwt) (k-root-of (rules.k kind dwt))
+    root = k-root (rules.k kind dwt) (k-within kind dwt draught)
 
-  pub design-parts : DesignParts v (kRootOf (rules.k kind dwt)) (tested .tonnes * 100) (hundredths kind dwt) (partsOf v (kRootOf (rules.k kind dwt)) (tested .tonnes * 100) (hundredths kind dwt))
-  design-parts = parts w (root .size) fives
+    pub design-parts : DesignParts v (k-root-of (rules.k kind dwt)) (tested .tonnes * 100) (Capacity kind dwt) (parts-of v (k-root-of (rules.k kind dwt)) (tested .tonnes * 100) (Capacity kind dwt))
+    design-parts = parts w (root .size) fives
 
-  pub design-speed : Speed (V-ref (design-trial v kW tested) kind dwt (lit (P // 100))) (designOf v kW tested kind dwt P)
-  unfolding V-ref designOf
-  design-speed =
-      measured (design-parts .parted) (product-is (design-parts .parted) (trial-moderate pos top near)) pos near (design-parts .fast) (design-parts .slow) (design-parts .thin)
-      (parts-side (over-capacity (Capacity kind dwt) (tested .tonnes) (hundredths kind dwt) (fives .b-low) (capacity-exact kind dwt)) root design-parts (omega (arith, w .least)))
+    pub design-speed : {kW P : ℕ} → 1 ≤ kW → P ≤ 36000000 → Near (100 * kW) P → Speed (V-ref (design-trial v kW tested) kind dwt (lit (P // 100))) (design-of v kW tested kind dwt P)
+    unfolding V-ref design-of
+    design-speed pos top near =
+        let d = design-parts in
+        measured (d .parted) (product-is (d .parted) (trial-moderate pos top near)) pos near (d .fast) (d .slow) (d .thin)
+        (parts-side (over-capacity (tested .tonnes) (Capacity kind dwt) (fives .b-low)) root d (omega (arith, w .least)))

@@ -2,19 +2,19 @@
 use Prim.Native.Nat.{ℕ, _*_}
 use mathlib.Core.Path.{_≡_, refl}
 use native.Mathlib.Omega.{arith}
-use Rattle.exact.specs.Formula.{_//_, below, above, lit, by-lit}
+use Rattle.formula.specs.Formula.{_//_, below, above, lit, by-lit}
 use Rattle.exact.specs.Ship.{Deadweight, Kind, Method, declared, trial, design-trial, statistical}
 use Rattle.exact.specs.Index.{V-ref}
-use Rattle.exact.proofs.Fractions.{_≈_, lies-≈}
+use Rattle.formula.proofs.Fractions.{_≈_, lies-≈}
 use Rattle.ship.specs.Accepted.{Within}
-use Rattle.speed.specs.Speeds.{exactly, Admitted, speedOf, Speed}
-use Rattle.speed.proofs.MethodFour.{statistical-speed}
+use Rattle.speed.specs.Speeds.{exactly, Accepted-speed, speed-by, Speed}
+use Rattle.speed.proofs.Statistics.{statistical-speed}
 use Rattle.speed.proofs.Trials.{trial-speed}
 use Rattle.speed.proofs.Designs.{design-speed}
 
 -- A declared speed is exactly itself.
-pub declared-exact : (v : ℕ) (kind : Kind) (dwt : Deadweight) (P : ℕ) → speedOf (declared v) kind dwt P ≡ exactly (v * 10000)
-unfolding speedOf
+pub declared-exact : (v : ℕ) (kind : Kind) (dwt : Deadweight) (P : ℕ) → speed-by (declared v) kind dwt P ≡ exactly (v * 10000)
+unfolding speed-by
 declared-exact v kind dwt P = refl
 
 declared-speed : {v : ℕ} → Within 500 6000 v → Speed (lit (v // 100)) (exactly (v * 10000))
@@ -27,10 +27,10 @@ declared-speed {v} w =
       fast = omega (arith, w .most);
     }
 
-pub speed-law : (m : Method ℕ) (kind : Kind) (dwt : Deadweight) (P : ℕ) → Admitted m kind dwt P → Speed (V-ref m kind dwt (lit (P // 100))) (speedOf m kind dwt P)
-unfolding V-ref speedOf
+pub speed-law : (m : Method ℕ) (kind : Kind) (dwt : Deadweight) (P : ℕ) → Accepted-speed m kind dwt P → Speed (V-ref m kind dwt (lit (P // 100))) (speed-by m kind dwt P)
+unfolding V-ref speed-by
 speed-law (declared v) kind dwt P a = declared-speed (a .method)
 speed-law (trial v kW) kind dwt P a = trial-speed kind dwt (a .method .0) (a .method .1 .least) (a .power .most) (a .method .2)
 speed-law (design-trial v kW tested) kind dwt P a =
-    design-speed tested kind dwt (a .method .0) (a .method .1 .least) (a .power .most) (a .method .2) (a .deadweight) (a .method .3) (a .method .4)
+    design-speed tested kind dwt (a .deadweight) (a .method .3) (a .method .0) (a .method .4) (a .method .1 .least) (a .power .most) (a .method .2)
 speed-law statistical kind dwt P a = statistical-speed kind dwt P (a .deadweight) (a .power)

@@ -1,9 +1,8 @@
 pub mod Products
 pub mod Rows
 pub mod Sides
-pub mod Statistics
 pub mod Reach
-pub mod MethodFour
+pub mod Statistics
 pub mod Trials
 pub mod Designs
 pub mod Laws

@@ -5,9 +5,9 @@ use native.Mathlib.Nat.{le-trans, le-of-eq, mul-pos, mul-one, mul-le-mul-left, m
 use native.Mathlib.Omega.{arith}
 use lib.Dec.{lit<}
 use lib.Pow.{pow-add}
-use Rattle.exact.specs.Formula.{below, above}
-use Rattle.exact.proofs.Wholes.{mul-pow, pow-mul, one-pow, root-le, square}
-use Rattle.exact.proofs.Powers.{whole-below, whole-above}
+use Rattle.formula.specs.Formula.{below, above}
+use Rattle.formula.proofs.Wholes.{mul-pow, pow-mul, one-pow, root-le, square}
+use Rattle.formula.proofs.Powers.{whole-below, whole-above}
 use Rattle.power.specs.Power.{BoundsPower}
 use Rattle.power.proofs.Laws.{in-words}
 
@@ -46,7 +46,8 @@ spread w u E F x k B C q h m c upos kpos qpos epos mpos em big f small e lo hi =
     (le-trans (mul-le-mul-right (k ^ n) (mul-le-mul-right (u ^ n) g)) (omega (arith, mul-le-mul-left (u ^ n * c ^ n) v)))))
 
 -- And a bound above E^(F/3) is at least 3/2 of one below B^C, where E is at least B and 100.
-pub apart : (w u E F x k B C q h : ℕ) → 0 < u → 0 < k → 0 < q → 100 ≤ E → B ≤ E → C * 3 + h ≤ F → q * 3 ≡ 10 * h → BoundsPower above w u E 1 F (q * 3) → BoundsPower below x k B 1 C q → x * u * 3 ≤ k * w * 2
+pub apart : (w u E F x k B C q h : ℕ) → 0 < u → 0 < k → 0 < q → 100 ≤ E → B ≤ E → C * 3 + h ≤ F → q * 3 ≡ 10 * h
+    → BoundsPower above w u E 1 F (q * 3) → BoundsPower below x k B 1 C q → x * u * 3 ≤ k * w * 2
 apart w u E F x k B C q h upos kpos qpos epos be f e hi lo =
     let n : ℕ = q * 3 in
     let big : E ^ (C * 3) * E ^ h ≤ E ^ F = rw (pow-add E (C * 3) h) at (pow-le-pow-right {n = E} (omega arith) f) in

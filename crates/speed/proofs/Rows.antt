@@ -1,15 +1,12 @@
 -- What holds of every row of method 4's table, computed once for all, and of the deadweight that goes into it.
 -- Assumes nothing.
-use mathlib.Core.Path.{_≡_, refl}
 use mathlib.Core.Bool.{Bool, true, false}
 use Prim.Native.Nat.{ℕ, _+_, _*_, _^_, _≤_, min}
 use native.Mathlib.Omega.{arith}
-use lib.Dec.{eqb}
 use Rattle.exact.specs.Ship.{Deadweight, Kind, bulk, gas, tanker, container, refrigerated, combination, vehicle}
-use Rattle.exact.specs.Index.{if, container?, row, sized}
+use Rattle.formula.specs.Words.{if}
+use Rattle.exact.specs.Index.{container?, row, sized}
 use Rattle.ship.specs.Accepted.{Within}
-use Rattle.ship.specs.Figures.{kind-of}
-use Rattle.ship.proofs.Figured.{of-seven}
 
 -- j and m: 600,000^C is at most m, since C is at most 1/j and 600,000 at most m^j.
 pub record Fit (A C D F j m : ℕ) : Type 0 where
@@ -28,33 +25,15 @@ pub record Fit (A C D F j m : ℕ) : Type 0 where
   pub strong : 2100000 ^ 3 * D ≤ (19 * A) ^ 3 * 1000000
   pub weak : (200 * A) ^ 3 * 14400000000 ≤ 840000000 ^ 3 * (3 * D)
 
-abbrev pub root-at : Kind → ℕ
-root-at bulk = 13
-root-at gas = 13
-root-at tanker = 13
-root-at container = 5
-root-at refrigerated = 3
-root-at combination = 13
-root-at vehicle = 13
-
-abbrev pub most : Kind → ℕ
-most bulk = 3
-most gas = 3
-most tanker = 3
-most container = 15
-most refrigerated = 85
-most combination = 3
-most vehicle = 3
-
-pub row-fits : (kind : Kind) → Fit (row kind .A) (row kind .C) (row kind .D) (row kind .F) (root-at kind) (most kind)
+pub row-fits : (kind : Kind) → (j : ℕ) × (m : ℕ) × Fit (row kind .A) (row kind .C) (row kind .D) (row kind .F) j m
 unfolding row
-row-fits bulk = omega arith
-row-fits gas = omega arith
-row-fits tanker = omega arith
-row-fits container = omega arith
-row-fits refrigerated = omega arith
-row-fits combination = omega arith
-row-fits vehicle = omega arith
+row-fits bulk = (13, 3, omega arith)
+row-fits gas = (13, 3, omega arith)
+row-fits tanker = (13, 3, omega arith)
+row-fits container = (5, 15, omega arith)
+row-fits refrigerated = (3, 85, omega arith)
+row-fits combination = (13, 3, omega arith)
+row-fits vehicle = (13, 3, omega arith)
 
 -- ── The deadweight, cut for a container ship ────────────────────────────────────────────────
 
@@ -81,9 +60,3 @@ two-cuts kind dwt w = go (container? kind)
     go : (b : Bool) → Cuts (if b (min (dwt .tonnes) 95000) (dwt .tonnes)) (if b (min (dwt .tonnes) 80000) (dwt .tonnes))
     go true = record { factor = 2; some = omega arith; wide = omega arith; small = omega arith; order = omega arith }
     go false = record { factor = 1; some = omega arith; wide = omega arith; small = omega (arith, w .most); order = omega arith }
-
--- ── Types by number ─────────────────────────────────────────────────────────────────────────
-
--- Number 4 is the container ship.
-pub is-container : (kind : ℕ) → Within 1 7 kind → container? (kind-of kind) ≡ eqb kind 4
-is-container = of-seven (λ kind. container? (kind-of kind) ≡ eqb kind 4) refl refl refl refl refl refl refl

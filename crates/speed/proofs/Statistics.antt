@@ -1,25 +1,32 @@
--- Method 4: V_avg, the margin, and MCR_avg. Assumes nothing.
+-- Method 4: V_avg, the margin, MCR_avg, and the speed from these parts. Assumes nothing.
 use mathlib.Core.Path.{_≡_, refl}
 use mathlib.Core.Bool.{Bool, true, false}
 use mathlib.Core.Logic.{_⊎_, inl, inr, ⊎-elim}
 use Prim.Native.Nat.{ℕ, _+_, _-_, _*_, _/_, _^_, _≤_, _<_}
-use native.Mathlib.Nat.{mul-le-mul, mul-le-mul-left, suc-pred-eq-of-pos}
+use native.Mathlib.Nat.{le-trans, mul-pos, one-le-pow, mul-le-mul, mul-le-mul-left, suc-pred-eq-of-pos}
 use native.Mathlib.Omega.{arith}
 use lib.Dec.{leb, lit<, lit≤}
 use borrow.Author.Tests.{leb-true, leb-false}
-use Rattle.exact.specs.Formula.{Frac, _//_, _≼_, _⊹_, _·_, _↥_, Side, below, above, at-most, at-least, Formula, _⊗_, bounds, by-lit, by-difference, by-product, larger-first, larger-second, larger-both, by-power, Enclosed}
-use Rattle.exact.specs.Ship.{Deadweight, Kind}
-use Rattle.exact.specs.Index.{percent, if, row, sized, V-avg, MCR-avg, less-margin}
-use Rattle.exact.proofs.Fractions.{_≈_, lies-refl, lies-≈}
-use Rattle.exact.proofs.Powers.{power-cubed}
+use Rattle.formula.specs.Formula.{Frac, _//_, _≼_, _⊹_, _·_, _↥_, Side, below, above, other, lies, at-most, at-least, Formula, lit, _⊗_}
+use Rattle.formula.specs.Formula.{bounds, by-lit, by-difference, by-product, larger-first, larger-second, larger-both, by-power, Enclosed}
+use Rattle.exact.specs.Ship.{Deadweight, Kind, statistical}
+use Rattle.formula.specs.Words.{percent, if}
+use Rattle.exact.specs.Index.{row, sized, V-avg, MCR-avg, less-margin, V-ref}
+use Rattle.formula.proofs.Wholes.{mul-pow}
+use Rattle.formula.proofs.Fractions.{_≈_, lies-refl, lies-≈}
+use Rattle.formula.proofs.Powers.{power-cubed}
+use Rattle.number.specs.Ratio.{Moderate}
 use Rattle.power.specs.declared.Bounds.{Bounds}
 use Rattle.power.specs.Numbers.{unit}
-use Rattle.power.specs.Power.{BoundsPower, Raisable, powerOf, Power}
-use Rattle.power.proofs.Laws.{in-words, rescaled, power-law}
+use Rattle.power.specs.Power.{BoundsPower, Raisable, power-of, Power}
+use Rattle.power.proofs.Laws.{in-words, power-law}
 use Rattle.ship.specs.Accepted.{Within}
-use Rattle.speed.specs.Speeds.{pair, averageOf, lessMarginOf}
-use Rattle.speed.proofs.Rows.{Fit, row-fits, root-at, most, sized-within}
-use Rattle.speed.proofs.Sides.{at, capped-root}
+use Rattle.speed.specs.declared.Split.{Split}
+use Rattle.speed.specs.Speeds.{pair, Parted, average-of, less-margin-of, statistical-of, Speed}
+use Rattle.speed.proofs.Products.{Product, product-is}
+use Rattle.speed.proofs.Rows.{row-fits, two-cuts, sized-within}
+use Rattle.speed.proofs.Sides.{at, some-at, power-at, farther, shape, Cubes, cubes, capped-root}
+use Rattle.speed.proofs.Reach.{spread, apart, slowest, fastest}
 
 -- ── V_avg ───────────────────────────────────────────────────────────────────────────────────
 
@@ -36,30 +43,29 @@ pub record Averaged (kind : Kind) (dwt : Deadweight) (v : Bounds) : Type 0 where
   pub high : v .hi ≤ 2 ^ 37
 
 module _ (kind : Kind) (dwt : Deadweight) (w : Within 100 600000 (dwt .tonnes)) where
-  fit : Fit (row kind .A) (row kind .C) (row kind .D) (row kind .F) (root-at kind) (most kind)
-  fit = row-fits kind
-
   pub average-raisable : Raisable (sized 80000 kind dwt) 1 (row kind .C) 100000
-  average-raisable = size-raisable 80000 (row kind .C) 100000 kind dwt (lit≤ tt) w (omega (arith, fit .c-high)) (lit< tt)
+  average-raisable = size-raisable 80000 (row kind .C) 100000 kind dwt (lit≤ tt) w (omega (arith, row-fits kind .2 .c-high)) (lit< tt)
 
-  law : Power (sized 80000 kind dwt) 1 (row kind .C) 100000 (powerOf (sized 80000 kind dwt) 1 (row kind .C) 100000)
+  law : Power (sized 80000 kind dwt) 1 (row kind .C) 100000 (power-of (sized 80000 kind dwt) 1 (row kind .C) 100000)
   law = power-law average-raisable
 
-  below-most : powerOf (sized 80000 kind dwt) 1 (row kind .C) 100000 .lo ≤ unit * most kind
+  below-most : power-of (sized 80000 kind dwt) 1 (row kind .C) 100000 .lo ≤ unit * row-fits kind .1
   below-most =
       let z = sized-within 80000 kind dwt (lit≤ tt) w in
-      capped-root _ (sized 80000 kind dwt) (row kind .C) 100000 (root-at kind) (most kind) 600000 (omega (arith, z .least)) (z .most) (lit< tt) (fit .j-low) (fit .c-root) (fit .top) (law .encloses-below)
+      let fit = row-fits kind .2 in
+      capped-root _ (sized 80000 kind dwt) (row kind .C) 100000 (row-fits kind .0) (row-fits kind .1) 600000 (omega (arith, z .least)) (z .most) (lit< tt)
+      (fit .j-low) (fit .c-root) (fit .top) (law .encloses-below)
 
   -- A x^C in 10^-5 of a unit.
-  pub low-fits : row kind .A * powerOf (sized 80000 kind dwt) 1 (row kind .C) 100000 .lo ≤ unit * 901000
-  low-fits = omega (arith, mul-le-mul-left (row kind .A) below-most, fit .fast)
+  pub low-fits : row kind .A * power-of (sized 80000 kind dwt) 1 (row kind .C) 100000 .lo ≤ unit * 901000
+  low-fits = omega (arith, mul-le-mul-left (row kind .A) below-most, row-fits kind .2 .fast)
 
-  pub high-fits : row kind .A * powerOf (sized 80000 kind dwt) 1 (row kind .C) 100000 .hi ≤ unit * 901001
+  pub high-fits : row kind .A * power-of (sized 80000 kind dwt) 1 (row kind .C) 100000 .hi ≤ unit * 901001
   high-fits = omega (arith, low-fits, mul-le-mul-left (row kind .A) (law .near))
 
-  pub averaged : Averaged kind dwt (averageOf kind dwt)
-  unfolding averageOf
-  averaged = go (powerOf (sized 80000 kind dwt) 1 (row kind .C) 100000) law high-fits
+  pub averaged : Averaged kind dwt (average-of kind dwt)
+  unfolding average-of
+  averaged = go (power-of (sized 80000 kind dwt) 1 (row kind .C) 100000) law high-fits
     where
       go : (x : Bounds) → Power (sized 80000 kind dwt) 1 (row kind .C) 100000 x → row kind .A * x .hi ≤ unit * 901001
           → Averaged kind dwt (pair (row kind .A * 3125 * x .lo / 33554432) (row kind .A * 3125 * x .hi / 33554432 + 1))
@@ -67,19 +73,15 @@ module _ (kind : Kind) (dwt : Deadweight) (w : Within 100 600000 (dwt .tonnes)) 
           let t = row kind .A * 3125 in
           let n = mul-le-mul-left t (p .near) in
           let o = mul-le-mul-left t (p .order) in
-          let l = mul-le-mul (fit .a-low) (p .low) in
-          record { holds = holds; near = omega arith; low = omega arith; order = omega arith; high = omega (arith, top) }
-        where
-          pos : 0 < row kind .A * 100000
-          pos = omega (arith, fit .a-low)
-
-          holds : (s : Side) → BoundsPower s (at s (pair (row kind .A * 3125 * x .lo / 33554432) (row kind .A * 3125 * x .hi / 33554432 + 1))) (row kind .A * 100000) (sized 80000 kind dwt) 1 (row kind .C) 100000
-          holds below =
-              let c : (row kind .A * 3125 * x .lo / 33554432) // (row kind .A * 100000) ≼ x .lo // unit = record { cross = rw (suc-pred-eq-of-pos pos) (omega arith) } in
-              rescaled below (x .lo) unit _ _ _ _ _ _ (at-most c) (p .encloses-below)
-          holds above =
-              let c : x .hi // unit ≼ (row kind .A * 3125 * x .hi / 33554432 + 1) // (row kind .A * 100000) = record { cross = rw (suc-pred-eq-of-pos pos) (omega arith) } in
-              rescaled above (x .hi) unit _ _ _ _ _ _ (at-least c) (p .encloses-above)
+          let l = mul-le-mul (row-fits kind .2 .a-low) (p .low) in
+          let pos : 0 < row kind .A * 100000 = omega (arith, row-fits kind .2 .a-low) in
+          record {
+            holds = λ s. farther s (at s x) unit _ _ _ _ _ _ pos (lit< tt) (elim s [ below ↦ omega arith | above ↦ omega arith ]) (power-at p s);
+            near = omega arith;
+            low = omega arith;
+            order = omega arith;
+            high = omega (arith, top);
+          }
 
   pub average-bounds : {v : Bounds} → Averaged kind dwt v → (s : Side) → bounds s (V-avg kind dwt) (at s v // 1000000000)
   unfolding V-avg
@@ -88,7 +90,7 @@ module _ (kind : Kind) (dwt : Deadweight) (w : Within 100 600000 (dwt .tonnes)) 
     where
       same : (v : ℕ) → v // 1000000000 ≈ row kind .A // 10000 · v // (row kind .A * 100000)
       same v =
-          let pos : 0 < row kind .A * 100000 = omega (arith, fit .a-low) in
+          let pos : 0 < row kind .A * 100000 = omega (arith, row-fits kind .2 .a-low) in
           record { cross = rw (suc-pred-eq-of-pos pos) (omega arith) }
 
 -- ── The margin ──────────────────────────────────────────────────────────────────────────────
@@ -100,8 +102,8 @@ pub record Kept (v r : ℕ) : Type 0 where
   pub second : v ≤ r + 1 + 1000000000
   pub less : r ≤ v
 
-pub kept : (v : ℕ) → Kept v (lessMarginOf v)
-unfolding lessMarginOf
+pub kept : (v : ℕ) → Kept v (less-margin-of v)
+unfolding less-margin-of
 kept v = go (leb v 20000000000) refl
   where
     go : (b : Bool) → leb v 20000000000 ≡ b → Kept v (if b (v * 95 / 100) (v - 1000000000))
@@ -113,7 +115,8 @@ kept v = go (leb v 20000000000) refl
         record { below = inr (omega arith); first = omega arith; second = omega arith; less = omega arith }
 
 -- Of a V that lies between v and v'.
-pub margin-bounds : {e : Formula} {v v' r r' : ℕ} → bounds below e (v // 1000000000) → bounds above e (v' // 1000000000) → Kept v r → Kept v' r' → Enclosed (less-margin e) (r // 1000000000) ((r' + 1) // 1000000000)
+pub margin-bounds : {e : Formula} {v v' r r' : ℕ} → bounds below e (v // 1000000000) → bounds above e (v' // 1000000000) → Kept v r → Kept v' r'
+    → Enclosed (less-margin e) (r // 1000000000) ((r' + 1) // 1000000000)
 unfolding less-margin
 margin-bounds {e} {v} {v'} {r} {r'} lo hi p p' =
     let f : 95 // 100 · v' // 1000000000 ≼ (r' + 1) // 1000000000 = omega (arith, p' .first) in
@@ -133,9 +136,98 @@ margin-bounds {e} {v} {v'} {r} {r'} lo hi p p' =
 abbrev pub mcr-at : (D w : ℕ) → Frac
 mcr-at D w = 75 // 100 · (D // 10000 · (w // unit) ↥ 3)
 
-pub mcr-bounds : (kind : Kind) (dwt : Deadweight) (s : Side) (w : ℕ) → BoundsPower s w unit (sized 95000 kind dwt) 1 (row kind .F) 300000 → bounds s (percent 75 ⊗ MCR-avg kind dwt) (mcr-at (row kind .D) w)
+pub mcr-bounds : (kind : Kind) (dwt : Deadweight) (s : Side) (w : ℕ) → BoundsPower s w unit (sized 95000 kind dwt) 1 (row kind .F) 300000
+    → bounds s (percent 75 ⊗ MCR-avg kind dwt) (mcr-at (row kind .D) w)
 unfolding MCR-avg
 mcr-bounds kind dwt s w h =
     by-product (by-lit (lies-refl s _))
     (by-product (by-lit (lies-refl s _)) (by-power (by-lit (lies-refl s _)) (power-cubed (row kind .F) {q = 100000} (lit< tt) (in-words w unit _ _ _ _ h))) (lies-refl s _))
     (lies-refl s _)
+
+-- ── The formula's root ──────────────────────────────────────────────────────────────────────
+
+-- The product's cubes are the formula's: q is t 1000 / b.
+root-side : (s : Side) (t w b D P : ℕ) → 0 < b → Cubes s t w b (P * 400) (3 * D) → lies s (((t * 1000) // b) ↥ 3 · mcr-at D w) (P // 100)
+root-side below t w b D P pos h =
+    let g : (t * 1000) ^ 3 * w ^ 3 * (3 * D) ≤ b ^ 3 * (2 ^ 30) ^ 3 * (P * 400) = rw (mul-pow (t * 1000) w 3, mul-pow b (2 ^ 30) 3) at h in
+    let c : ((t * 1000) // b) ↥ 3 · mcr-at D w ≼ P // 100 = record { cross = rw (suc-pred-eq-of-pos pos) (omega arith) } in
+    at-most c
+root-side above t w b D P pos h =
+    let g : b ^ 3 * (2 ^ 30) ^ 3 * (P * 400) ≤ (t * 1000) ^ 3 * w ^ 3 * (3 * D) = rw (mul-pow (t * 1000) w 3, mul-pow b (2 ^ 30) 3) at h in
+    let c : P // 100 ≼ ((t * 1000) // b) ↥ 3 · mcr-at D w = record { cross = rw (suc-pred-eq-of-pos pos) (omega arith) } in
+    at-least c
+
+out : (t b : ℕ) → 0 < b → t // 1000000 ≈ b // 1000000000 · (t * 1000) // b
+out t b pos = record { cross = rw (suc-pred-eq-of-pos pos) (omega arith) }
+
+-- ── The parts ───────────────────────────────────────────────────────────────────────────────
+
+abbrev based : Bounds → Bounds → Split
+based v over = record { base = pair (less-margin-of (v .lo)) (less-margin-of (v .hi) + 1); over = over }
+
+-- The two ends of the speed less its margin, over a power.
+split-parted : {kind : Kind} {dwt : Deadweight} {v o : Bounds} {e f q : ℕ} → Averaged kind dwt v → Power e 1 f q o → Parted (based v o)
+split-parted {v = v} a o =
+    let p = kept (v .lo) in
+    let p' = kept (v .hi) in
+    let order : less-margin-of (v .lo) ≤ less-margin-of (v .hi) + 1 = ⊎-elim (λ h. omega (arith, a .order, p' .first)) (λ h. omega (arith, a .order, p' .second)) (p .below) in
+    let near : (less-margin-of (v .hi) + 1) * 100000000 ≤ less-margin-of (v .lo) * 100000003 =
+    ⊎-elim (λ h. omega (arith, a .near, a .low, p .first)) (λ h. omega (arith, a .near, a .low, p .first, p .second)) (p' .below) in
+    omega (arith, a .low, a .high, p .first, p' .less, o)
+
+module _ (kind : Kind) (dwt : Deadweight) (P : ℕ) (w : Within 100 600000 (dwt .tonnes)) (strong : Within 7500 36000000 P) where
+  pub over-raisable : Raisable (sized 95000 kind dwt) 1 (row kind .F) 300000
+  over-raisable = size-raisable 95000 (row kind .F) 300000 kind dwt (lit≤ tt) w (omega (arith, row-fits kind .2 .f-high)) (lit< tt)
+
+  over : Power (sized 95000 kind dwt) 1 (row kind .F) 300000 (power-of (sized 95000 kind dwt) 1 (row kind .F) 300000)
+  over = power-law over-raisable
+
+  pub statistical-parted : Parted (based (average-of kind dwt) (power-of (sized 95000 kind dwt) 1 (row kind .F) 300000))
+  statistical-parted = split-parted (averaged kind dwt w) over
+
+  pub statistical-moderate : Moderate (P * 400) (3 * row kind .D)
+  statistical-moderate = omega (arith, row-fits kind .2 .d-low, row-fits kind .2 .d-high, strong)
+
+  module _ (v o r : Bounds) (a : Averaged kind dwt v) (law : Power (sized 95000 kind dwt) 1 (row kind .F) 300000 o) (x : Product (based v o) (P * 400) (3 * row kind .D) r) where
+    margin-side : (s : Side) → bounds s (less-margin (V-avg kind dwt)) (at s (based v o .base) // 1000000000)
+    margin-side s =
+        let m = margin-bounds (average-bounds kind dwt w a below) (average-bounds kind dwt w a above) (kept (v .lo)) (kept (v .hi)) in
+        elim s [ below ↦ m .low | above ↦ m .high ]
+
+    base-some : (s : Side) → 0 < at s (based v o .base)
+    base-some s = elim s [ below ↦ omega (arith, split-parted a law .low) | above ↦ omega arith ]
+
+    over-some : (s : Side) → 0 < at s o
+    over-some = some-at (omega (arith, law .low)) (law .order)
+
+    speed-side : (s : Side) → bounds s (V-ref statistical kind dwt (lit (P // 100))) (at s r // 1000000)
+    unfolding V-ref
+    speed-side s =
+        shape ((at s r * 1000) // at s (based v o .base)) (margin-side s) (mcr-bounds kind dwt (other s) (at (other s) o) (power-at law (other s)))
+        (mul-pos (lit< tt) (mul-pos (row-fits kind .2 .d-low) (one-le-pow 3 (at (other s) o) (over-some (other s)))))
+        (root-side s (at s r) (at (other s) o) (at s (based v o .base)) (row kind .D) P (base-some s) (cubes x s))
+        (lies-≈ s (out (at s r) (at s (based v o .base)) (base-some s)))
+
+    statistical-is : Speed (V-ref statistical kind dwt (lit (P // 100))) r
+    statistical-is =
+        let fit = row-fits kind .2 in
+        let cuts = two-cuts kind dwt w in
+        let size : 100 ≤ sized 95000 kind dwt = sized-within 95000 kind dwt (lit≤ tt) w .least in
+        let k : 0 < row kind .A * 100000 = omega (arith, fit .a-low) in
+        let wide : o .lo * (row kind .A * 100000) ≤ unit * v .hi * 10 =
+        spread (o .lo) unit (sized 95000 kind dwt) (row kind .F) (v .hi) (row kind .A * 100000) (sized 80000 kind dwt) (row kind .C) 100000 50000 (cuts .factor) 10 (lit< tt) k (lit< tt)
+        (le-trans (lit≤ tt) size) (cuts .some) (cuts .wide) (cuts .small) (fit .spread) (omega (arith, fit .c-high)) refl (power-at law below) (a .holds above) in
+        let far : v .lo * unit * 3 ≤ row kind .A * 100000 * o .hi * 2 =
+        apart (o .hi) unit (sized 95000 kind dwt) (row kind .F) (v .lo) (row kind .A * 100000) (sized 80000 kind dwt) (row kind .C) 100000 30000 (lit< tt) k (lit< tt)
+        size (cuts .order) (fit .apart) refl (power-at law above) (a .holds below) in
+        let slow : 1050000 ≤ r .hi =
+        slowest (r .hi) (o .lo) (row kind .A) (row kind .D) unit (v .hi) (less-margin-of (v .hi) + 1) P (over-some below) (fit .d-low) (strong .least)
+        wide (kept (v .hi) .first) (fit .strong) (x .above) in
+        let fast : r .lo ≤ 280000000 =
+        fastest (r .lo) (o .hi) (row kind .A) (row kind .D) unit (v .lo) (less-margin-of (v .lo)) P (over-some above) (fit .d-low) (strong .most) far (kept (v .lo) .less) (fit .weak) (x .below) in
+        let near = x .near in
+        record { encloses = record { low = speed-side below; high = speed-side above }; near = near; slow = omega arith; fast = omega arith }
+
+  pub statistical-speed : Speed (V-ref statistical kind dwt (lit (P // 100))) (statistical-of kind dwt P)
+  unfolding statistical-of
+  statistical-speed = statistical-is (average-of kind dwt) _ _ (averaged kind dwt w) over (product-is statistical-parted statistical-moderate)

@@ -1,20 +1,20 @@
 -- Methods 2 and 3 from their parts. Assumes nothing.
 use Prim.Native.Nat.{ℕ, _*_, _^_, _≤_, _<_}
-use native.Mathlib.Nat.{le-trans, le-refl, mul-le-mul-left, suc-pred-eq-of-pos}
+use native.Mathlib.Nat.{le-trans, mul-le-mul-left, mul-pos, suc-pred-eq-of-pos}
 use native.Mathlib.Omega.{arith}
-use lib.Dec.{lit≤}
-use Rattle.exact.specs.Formula.{_//_, _≼_, _·_, _↥_, Side, below, above, other, lies, at-most, at-least, Formula, lit, _⊗_, _⊘_, _↑_, bounds, by-lit}
+use lib.Dec.{lit<, lit≤}
+use Rattle.formula.specs.Formula.{_//_, _≼_, _·_, _↥_, Side, below, above, other, lies, at-most, at-least, Formula, lit, _⊗_, _⊘_, _↑_, bounds, by-lit}
 use Rattle.exact.specs.Ship.{Deadweight, Kind, trial}
-use Rattle.exact.specs.Index.{whole, V-ref}
-use Rattle.exact.specs.Index as rules
-use Rattle.exact.proofs.Fractions.{_≈_, ≈-sym, lies-refl, lies-≈}
+use Rattle.formula.specs.Words.{whole}
+use Rattle.exact.specs.Index.{V-ref}
+use Rattle.formula.proofs.Fractions.{_≈_, ≈-sym, lies-refl, lies-≈}
 use Rattle.number.specs.Ratio.{Moderate}
 use Rattle.power.specs.declared.Bounds.{Bounds}
 use Rattle.ship.specs.Accepted.{Within, Near}
 use Rattle.speed.specs.declared.Split.{Split}
-use Rattle.speed.specs.Speeds.{exactly, undivided, Parted, trialOf, Speed}
+use Rattle.speed.specs.Speeds.{exactly, undivided, Parted, trial-of, Speed}
 use Rattle.speed.proofs.Products.{Product, product-is}
-use Rattle.speed.proofs.Sides.{at, shape, Cubes, cubes}
+use Rattle.speed.proofs.Sides.{at, some-at, shape, Cubes, cubes}
 
 -- ── A measured speed ────────────────────────────────────────────────────────────────────────
 
@@ -29,14 +29,13 @@ out t w b pos pos' = record { cross = rw (suc-pred-eq-of-pos pos, suc-pred-eq-of
 module _ {p : Split} {kW P : ℕ} {r : Bounds} (parted : Parted p) (x : Product p P (kW * 100) r) (pos : 1 ≤ kW) (near : Near (100 * kW) P)
     (fast : 4450000000 ≤ p .base .hi) (slow : p .base .lo ≤ 120000000000) (thin : p .over .lo ≤ 2 ^ 31) where
   base-some : (s : Side) → 0 < at s (p .base) * 2 ^ 30
-  base-some below = omega (arith, parted .low)
-  base-some above = omega arith
+  base-some s = elim s [ below ↦ omega (arith, parted .low) | above ↦ omega arith ]
 
   over-some : (s : Side) → 0 < at s (p .over) * 1000000000
-  over-some below = omega (arith, parted .over-low)
-  over-some above = omega (arith, parted .over-low, parted .over-order)
+  over-some s = mul-pos (some-at (omega (arith, parted .over-low)) (parted .over-order) s) (lit< tt)
 
-  measured-side : {B : Formula} → ((s : Side) → bounds s B ((at s (p .base) * 2 ^ 30) // (at (other s) (p .over) * 1000000000))) → (s : Side) → bounds s (B ⊗ (lit (P // 100) ⊘ whole kW) ↑ (1 // 3)) (at s r // 1000000)
+  measured-side : {B : Formula} → ((s : Side) → bounds s B ((at s (p .base) * 2 ^ 30) // (at (other s) (p .over) * 1000000000))) → (s : Side)
+      → bounds s (B ⊗ (lit (P // 100) ⊘ whole kW) ↑ (1 // 3)) (at s r // 1000000)
   measured-side b s =
       shape ((at s r * 1000 * at (other s) (p .over)) // (at s (p .base) * 2 ^ 30)) (b s) (by-lit (lies-refl (other s) _)) pos
       (root-side s (at s r) (at (other s) (p .over)) (at s (p .base)) kW P (base-some s) (cubes x s))
@@ -47,12 +46,7 @@ module _ {p : Split} {kW P : ℕ} {r : Bounds} (parted : Parted p) (x : Product 
       let n = x .near in
       let l : 1112500 ≤ r .hi = omega (arith, x .half, mul-le-mul-left (r .hi) thin) in
       let h : r .lo ≤ 240000000 = omega (arith, x .twice (omega (arith, near .second)), mul-le-mul-left (r .lo) (le-trans (parted .over-low) (parted .over-order))) in
-      record {
-        encloses = record { low = measured-side b below; high = measured-side b above };
-        near = n;
-        slow = omega arith;
-        fast = omega arith;
-      }
+      record { encloses = record { low = measured-side b below; high = measured-side b above }; near = n; slow = omega arith; fast = omega arith }
 
 pub trial-moderate : {kW P : ℕ} → 1 ≤ kW → P ≤ 36000000 → Near (100 * kW) P → Moderate P (kW * 100)
 trial-moderate pos top near = record { some = omega arith; eighth = omega (arith, near .first); small = omega arith }
@@ -60,20 +54,10 @@ trial-moderate pos top near = record { some = omega arith; eighth = omega (arith
 -- ── Method 2 ────────────────────────────────────────────────────────────────────────────────
 
 pub trial-parted : {v : ℕ} → Within 500 6000 v → Parted (undivided (exactly (v * 10000000)))
-trial-parted w =
-    record {
-      low = omega (arith, w .least);
-      order = le-refl _;
-      high = omega (arith, w .most);
-      near = omega arith;
-      over-low = le-refl _;
-      over-order = le-refl _;
-      over-high = lit≤ tt;
-      over-near = lit≤ tt;
-    }
+trial-parted w = let low = w .least in let high = w .most in omega arith
 
-pub trial-speed : {v kW P : ℕ} (kind : Kind) (dwt : Deadweight) → Within 500 6000 v → 1 ≤ kW → P ≤ 36000000 → Near (100 * kW) P → Speed (V-ref (trial v kW) kind dwt (lit (P // 100))) (trialOf v kW P)
-unfolding V-ref trialOf
+pub trial-speed : {v kW P : ℕ} (kind : Kind) (dwt : Deadweight) → Within 500 6000 v → 1 ≤ kW → P ≤ 36000000 → Near (100 * kW) P → Speed (V-ref (trial v kW) kind dwt (lit (P // 100))) (trial-of v kW P)
+unfolding V-ref trial-of
 trial-speed {v} kind dwt w pos top near =
     measured (trial-parted w) (product-is (trial-parted w) (trial-moderate pos top near)) pos near (omega (arith, w .least)) (omega (arith, w .most)) (lit≤ tt) base
   where
@@ -81,5 +65,4 @@ trial-speed {v} kind dwt w pos top near =
     same = omega arith
 
     base : (s : Side) → bounds s (lit (v // 100)) ((at s (exactly (v * 10000000)) * 2 ^ 30) // (at (other s) (exactly (2 ^ 30)) * 1000000000))
-    base below = by-lit (lies-≈ below (≈-sym same))
-    base above = by-lit (lies-≈ above (≈-sym same))
+    base s = elim s [ below ↦ by-lit (lies-≈ below (≈-sym same)) | above ↦ by-lit (lies-≈ above (≈-sym same)) ]

@@ -1,13 +1,13 @@
 -- The trial worked by hand: 10.00 knots at 2,000 kW, where the sum of P_ME is 6,750 kW, make 15 knots. Assumes nothing.
-use Prim.Native.Nat.{ℕ, _*_, _≤_}
+use Prim.Native.Nat.{_≤_}
 use native.Mathlib.Omega.{arith}
-use Rattle.exact.specs.Formula.{Frac, _//_, _≼_, _·_, _↥_, Side, below, above, lit, bounds, by-lit, by-product, by-quotient, by-power}
+use Rattle.formula.specs.Formula.{_//_, _≼_, _·_, _↥_, Side, below, above, lit, bounds, by-lit, by-product, by-quotient, by-power}
 use Rattle.exact.specs.Ship.{Deadweight, Kind, trial}
 use Rattle.exact.specs.Index.{V-ref}
-use Rattle.exact.proofs.Fractions.{_≈_, lies-refl, lies-≈}
-use Rattle.exact.proofs.Formulas.{consistent}
+use Rattle.formula.proofs.Fractions.{_≈_, lies-refl, lies-≈}
+use Rattle.formula.proofs.Formulas.{consistent}
 use Rattle.ship.specs.Accepted.{Within}
-use Rattle.speed.specs.Speeds.{Admitted, speedOf}
+use Rattle.speed.specs.Speeds.{Accepted-speed, speed-by}
 use Rattle.speed.proofs.Laws.{speed-law}
 
 module _ (kind : Kind) (dwt : Deadweight) where
@@ -22,10 +22,10 @@ module _ (kind : Kind) (dwt : Deadweight) where
       (by-power {u = 27 // 8} (by-quotient {v = 2000 // 1} (by-lit (lies-refl s _)) (by-lit (lies-refl _ _)) (omega arith) (lies-≈ s ratio)) (record { whole = lies-≈ s cube }))
       (lies-≈ s knots)
 
-  pub fifteen-knots : Within 100 600000 (dwt .tonnes) → (speedOf (trial 1000 2000) kind dwt 675000 .lo ≤ 15000000) × (15000000 ≤ speedOf (trial 1000 2000) kind dwt 675000 .hi)
+  pub fifteen-knots : Within 100 600000 (dwt .tonnes) → (speed-by (trial 1000 2000) kind dwt 675000 .lo ≤ 15000000) × (15000000 ≤ speed-by (trial 1000 2000) kind dwt 675000 .hi)
   fifteen-knots w =
-      let asked : Admitted (trial 1000 2000) kind dwt 675000 = record { deadweight = w; power = omega arith; method = omega arith } in
+      let asked : Accepted-speed (trial 1000 2000) kind dwt 675000 = record { deadweight = w; power = omega arith; method = omega arith } in
       let v = speed-law (trial 1000 2000) kind dwt 675000 asked in
-      let low : speedOf (trial 1000 2000) kind dwt 675000 .lo // 1000000 ≼ 15 // 1 = consistent _ (v .encloses .low) (fifteen above) in
-      let high : 15 // 1 ≼ speedOf (trial 1000 2000) kind dwt 675000 .hi // 1000000 = consistent _ (fifteen below) (v .encloses .high) in
+      let low : speed-by (trial 1000 2000) kind dwt 675000 .lo // 1000000 ≼ 15 // 1 = consistent _ (v .encloses .low) (fifteen above) in
+      let high : 15 // 1 ≼ speed-by (trial 1000 2000) kind dwt 675000 .hi // 1000000 = consistent _ (fifteen below) (v .encloses .high) in
       (omega (arith, low .cross), omega (arith, high .cross))

@@ -2,20 +2,17 @@
 -- desk opens it, to compute the figures worked by hand.
 -- Assumes nothing.
 use mathlib.Core.Path.{_≡_}
-use mathlib.Core.List.{[], _∷_}
 use Prim.Native.Nat.{ℕ, _+_, _-_, _*_, _/_, _^_, _≤_, _<_}
 use lib.Dec.{leb}
-use lib.ListN.{getD}
-use Rattle.exact.specs.Formula.{_//_, Formula, Enclosed}
+use Rattle.formula.specs.Formula.{_//_, Formula, Enclosed}
 use Rattle.exact.specs.Ship.{Deadweight, Kind, Method, declared, trial, design-trial, statistical}
-use Rattle.exact.specs.Index.{if, k, row, sized}
-use Rattle.number.specs.Division.{ceilOf}
-use Rattle.number.specs.Ratio.{cubeRootOf}
+use Rattle.formula.specs.Words.{if}
+use Rattle.exact.specs.Index.{Capacity, k, row, sized}
+use Rattle.number.specs.Division.{ceil-of}
+use Rattle.number.specs.Ratio.{cube-root-of}
 use Rattle.power.specs.declared.Bounds.{Bounds}
-use Rattle.power.specs.Power.{powerOf}
-use Rattle.ship.specs.Accepted.{Within, Near, By-design-draught, hundredths}
-use Rattle.ship.specs.Figures.{deadweight-of}
-use Rattle.ship.specs.declared.Trial as record-trial
+use Rattle.power.specs.Power.{power-of}
+use Rattle.ship.specs.Accepted.{Within, Near, By-design-draught}
 use Rattle.speed.specs.declared.Row.{Row}
 use Rattle.speed.specs.declared.Split.{Split}
 
@@ -45,32 +42,32 @@ pub record Parted (s : Split) : Type 0 where
   pub over-near : s .over .hi * 2 ^ 27 ≤ s .over .lo * (2 ^ 27 + 1)
 
 -- base / over times the cube root of n / d, in millionths of a knot, rounded once.
-unfoldable pub speedFrom : Split → (n d : ℕ) → Bounds
-speedFrom s n d =
-    let r = cubeRootOf n d in
+unfoldable pub speed-from : Split → (n d : ℕ) → Bounds
+speed-from s n d =
+    let r = cube-root-of n d in
     pair
     (s .base .lo * r .low * 2 ^ 30 / (s .over .hi * (r .scale * 1000)))
-    (ceilOf (s .base .hi * r .high * 2 ^ 30) (s .over .lo * (r .scale * 1000)))
+    (ceil-of (s .base .hi * r .high * 2 ^ 30) (s .over .lo * (r .scale * 1000)))
 
 -- ── Method 4 ────────────────────────────────────────────────────────────────────────────────
 
 -- V_avg in 10^-9 knot: A, in ten-thousandths, times 10^5 / 2^30.
-unfoldable pub averageOf : Kind → Deadweight → Bounds
-averageOf kind dwt =
-    let x = powerOf (sized 80000 kind dwt) 1 (row kind .C) 100000 in
+unfoldable pub average-of : Kind → Deadweight → Bounds
+average-of kind dwt =
+    let x = power-of (sized 80000 kind dwt) 1 (row kind .C) 100000 in
     let t = row kind .A * 3125 in
     pair (t * x .lo / 33554432) (t * x .hi / 33554432 + 1)
 
 -- The larger of 0.95 v and v - 1 knot, rounded down.
-unfoldable pub lessMarginOf : ℕ → ℕ
-lessMarginOf v = if (leb v 20000000000) (v * 95 / 100) (v - 1000000000)
+unfoldable pub less-margin-of : ℕ → ℕ
+less-margin-of v = if (leb v 20000000000) (v * 95 / 100) (v - 1000000000)
 
 -- V_avg - m_V over E^(F/3): the third of F goes into the power, so that what stands under the root is exact.
-unfoldable pub statisticalOf : Kind → Deadweight → ℕ → Bounds
-statisticalOf kind dwt P =
-    let v = averageOf kind dwt in
-    let base = pair (lessMarginOf (v .lo)) (lessMarginOf (v .hi) + 1) in
-    speedFrom (record { base = base; over = powerOf (sized 95000 kind dwt) 1 (row kind .F) 300000 }) (P * 400) (3 * row kind .D)
+unfoldable pub statistical-of : Kind → Deadweight → ℕ → Bounds
+statistical-of kind dwt P =
+    let v = average-of kind dwt in
+    let base = pair (less-margin-of (v .lo)) (less-margin-of (v .hi) + 1) in
+    speed-from (record { base = base; over = power-of (sized 95000 kind dwt) 1 (row kind .F) 300000 }) (P * 400) (3 * row kind .D)
 
 -- ── Methods 2 and 3 ─────────────────────────────────────────────────────────────────────────
 
@@ -78,12 +75,12 @@ abbrev pub undivided : Bounds → Split
 undivided base = record { base = base; over = exactly (2 ^ 30) }
 
 -- v in 1/100 knot at a trial of so many kW.
-unfoldable pub trialOf : (v kW P : ℕ) → Bounds
-trialOf v kW P = speedFrom (undivided (exactly (v * 10000000))) P (kW * 100)
+unfoldable pub trial-of : (v kW P : ℕ) → Bounds
+trial-of v kW P = speed-from (undivided (exactly (v * 10000000))) P (kW * 100)
 
 -- The cube root of k / 100, in 10^-9.
-unfoldable pub kRootOf : ℕ → Bounds
-kRootOf n = let y = powerOf 100 n 1 3 in pair (1073741824000000000 / y .hi) (ceilOf 1073741824000000000 (y .lo))
+unfoldable pub k-root-of : ℕ → Bounds
+k-root-of n = let y = power-of 100 n 1 3 in pair (1073741824000000000 / y .hi) (ceil-of 1073741824000000000 (y .lo))
 
 -- Two close ends of a factor just below 1, in 10^-9.
 pub record Factor (g : Bounds) : Type 0 where
@@ -101,42 +98,42 @@ pub record Fives (a b : ℕ) : Type 0 where
   pub near : Near a b
 
 -- v in 1/100 knot times g in 10^-9, as 10^-9 knot.
-abbrev pub timesOf : ℕ → Bounds → Bounds
-timesOf v g = pair (v * g .lo / 100) (ceilOf (v * g .hi) 100)
+abbrev pub times-of : ℕ → Bounds → Bounds
+times-of v g = pair (v * g .lo / 100) (ceil-of (v * g .hi) 100)
 
 -- v g (a/b)^(2/9), where a/b is at least 1; and where it is less, over (b/a)^(2/9).
-unfoldable pub upOf : ℕ → Bounds → (a b : ℕ) → Split
-upOf v g a b = let x = powerOf a b 2 9 in undivided (timesOf v (pair (g .lo * x .lo / 2 ^ 30) (ceilOf (g .hi * x .hi) (2 ^ 30))))
+unfoldable pub up-of : ℕ → Bounds → (a b : ℕ) → Split
+up-of v g a b = let x = power-of a b 2 9 in undivided (times-of v (pair (g .lo * x .lo / 2 ^ 30) (ceil-of (g .hi * x .hi) (2 ^ 30))))
 
-unfoldable pub downOf : ℕ → Bounds → (a b : ℕ) → Split
-downOf v g a b = record { base = timesOf v g; over = powerOf b a 2 9 }
+unfoldable pub down-of : ℕ → Bounds → (a b : ℕ) → Split
+down-of v g a b = record { base = times-of v g; over = power-of b a 2 9 }
 
-unfoldable pub partsOf : ℕ → Bounds → (a b : ℕ) → Split
-partsOf v g a b = if (leb b a) (upOf v g a b) (downOf v g a b)
+unfoldable pub parts-of : ℕ → Bounds → (a b : ℕ) → Split
+parts-of v g a b = if (leb b a) (up-of v g a b) (down-of v g a b)
 
 -- The trial's deadweight is tested; Capacity is in hundredths.
-unfoldable pub designOf : (v kW : ℕ) → Deadweight → Kind → Deadweight → ℕ → Bounds
-designOf v kW tested kind dwt P =
-    speedFrom (partsOf v (kRootOf (k kind dwt)) (tested .tonnes * 100) (hundredths kind dwt)) P (kW * 100)
+unfoldable pub design-of : (v kW : ℕ) → Deadweight → Kind → Deadweight → ℕ → Bounds
+design-of v kW tested kind dwt P =
+    speed-from (parts-of v (k-root-of (k kind dwt)) (tested .tonnes * 100) (Capacity kind dwt)) P (kW * 100)
 
 -- ── Every method ────────────────────────────────────────────────────────────────────────────
 
 -- V_ref in millionths of a knot; P is the sum of P_ME in 1/100 kW.
-unfoldable pub speedOf : Method ℕ → Kind → Deadweight → ℕ → Bounds
-speedOf (declared v) kind dwt P = exactly (v * 10000)
-speedOf (trial v kW) kind dwt P = trialOf v kW P
-speedOf (design-trial v kW tested) kind dwt P = designOf v kW tested kind dwt P
-speedOf statistical kind dwt P = statisticalOf kind dwt P
+unfoldable pub speed-by : Method ℕ → Kind → Deadweight → ℕ → Bounds
+speed-by (declared v) kind dwt P = exactly (v * 10000)
+speed-by (trial v kW) kind dwt P = trial-of v kW P
+speed-by (design-trial v kW tested) kind dwt P = design-of v kW tested kind dwt P
+speed-by statistical kind dwt P = statistical-of kind dwt P
 
 -- What the rules leave of each method.
 abbrev pub Fitting : Method ℕ → Kind → Deadweight → ℕ → Type 0
 Fitting (declared v) kind dwt P = Within 500 6000 v
 Fitting (trial v kW) kind dwt P = Within 500 6000 v × Within 1 600000 kW × Near (100 * kW) P
 Fitting (design-trial v kW tested) kind dwt P =
-    Within 500 6000 v × Within 1 600000 kW × Near (100 * kW) P × Near (100 * tested .tonnes) (hundredths kind dwt) × By-design-draught kind
+    Within 500 6000 v × Within 1 600000 kW × Near (100 * kW) P × Near (100 * tested .tonnes) (Capacity kind dwt) × By-design-draught kind
 Fitting statistical kind dwt P = Unit {0}
 
-pub record Admitted (m : Method ℕ) (kind : Kind) (dwt : Deadweight) (P : ℕ) : Type 0 where
+pub record Accepted-speed (m : Method ℕ) (kind : Kind) (dwt : Deadweight) (P : ℕ) : Type 0 where
   pub deadweight : Within 100 600000 (dwt .tonnes)
   pub power : Within 7500 36000000 P
   pub method : Fitting m kind dwt P
@@ -147,13 +144,3 @@ pub record Speed (e : Formula) (r : Bounds) : Type 0 where
   pub near : r .hi * 1000000 ≤ r .lo * 1000000 + r .hi + 2000000
   pub slow : 1000000 ≤ r .lo
   pub fast : r .hi ≤ 290000000
-
--- ── In a record ─────────────────────────────────────────────────────────────────────────────
-
--- The method of a number, with one speed.
-abbrev pub one-method : ℕ → ℕ → record-trial.Trial → Method ℕ
-one-method method v t =
-    getD
-    (declared v ∷ trial v (t .power) ∷ design-trial v (t .power) (deadweight-of (t .deadweight)) ∷ statistical ∷ [])
-    (method - 1)
-    statistical

@@ -5,12 +5,13 @@ use ship::Particulars;
 use ship::Trial;
 ghost use mathlib.Core.Path.{_≡_};
 ghost use Prim.Native.Nat.{_+_, _*_, _/_, _^_, _≤_, _<_};
-ghost use Rattle.exact.specs.Index.{k, sized};
-ghost use Rattle.number.specs.Division.{ceilOf};
+ghost use Rattle.exact.specs.Index.{Capacity, k, sized};
+ghost use Rattle.number.specs.Division.{ceil-of};
 ghost use Rattle.number.specs.Ratio.{Moderate};
-ghost use Rattle.ship.specs.Accepted.{Within, Near, By-design-draught, hundredths};
-ghost use Rattle.ship.specs.Figures.{kind-of, deadweight-of};
-ghost use Rattle.speed.specs.Speeds.{Parted, Factor, Fives, RowOf, speedFrom, averageOf, lessMarginOf, statisticalOf, trialOf, kRootOf, timesOf, upOf, downOf, partsOf, designOf, one-method, Admitted, speedOf};
+ghost use Rattle.ship.specs.Accepted.{Within, Near, By-design-draught};
+ghost use Rattle.ship.specs.Figures.{kind-of, Listed, deadweight-of, method-of};
+ghost use Rattle.speed.specs.Speeds.{Parted, Factor, Fives, RowOf, Accepted-speed};
+ghost use Rattle.speed.specs.Speeds.{speed-from, average-of, less-margin-of, statistical-of, trial-of, k-root-of, times-of, up-of, down-of, parts-of, design-of, speed-by};
 
 // A row of method 4's table.
 struct Row {
@@ -38,7 +39,7 @@ fn quotient_down(x: u64, w: u64, m: u64) -> u64
 // x * 2^30 / (w * m), rounded up.
 fn quotient_up(x: u64, w: u64, m: u64) -> u64
     requires { ⌜ (2 ^ 30 ≤ w) × (w ≤ 2 ^ 51) × (x < 2 ^ 62) × (0 < m) × (m ≤ 2 ^ 40) ⌝ }
-    ensures { λ r. ⌜ r ≡ ceilOf (x * 2 ^ 30) (w * m) ⌝ }
+    ensures { λ r. ⌜ r ≡ ceil-of (x * 2 ^ 30) (w * m) ⌝ }
 {
     let q = number::division::ceil_scaled(x, w, 1024, 3);
     (q + (m - 1)) / m
@@ -47,7 +48,7 @@ fn quotient_up(x: u64, w: u64, m: u64) -> u64
 // The shape that methods 2 to 4 share: base / over times the cube root of n / d.
 fn speed_from(s: Split, n: u64, d: u64) -> Bounds
     requires { ⌜ Parted s × Moderate n d ⌝ }
-    ensures { λ r. ⌜ r ≡ speedFrom s n d ⌝ }
+    ensures { λ r. ⌜ r ≡ speed-from s n d ⌝ }
 {
     let r = number::ratio::cube_root(n, d);
     let m = r.scale * 1000;
@@ -66,7 +67,7 @@ fn coefficients(a: u64, c: u64, d: u64, f: u64) -> Row
 
 // The table of method 4: A and D in ten-thousandths, C and F in hundred-thousandths.
 fn row_of(kind: u64) -> Row
-    requires { ⌜ Within 1 7 kind ⌝ }
+    requires { ⌜ Listed kind ⌝ }
     ensures { λ r. ⌜ RowOf (kind-of kind) r ⌝ }
 {
     match kind {
@@ -83,7 +84,7 @@ fn row_of(kind: u64) -> Row
 
 // The deadweight, for a container ship no more than `most`.
 fn size(kind: u64, deadweight: Deadweight, most: u64) -> u64
-    requires { ⌜ Within 1 7 kind ⌝ }
+    requires { ⌜ Listed kind ⌝ }
     ensures { λ r. ⌜ r ≡ sized most (kind-of kind) (deadweight-of deadweight) ⌝ }
 {
     let t = deadweight.tonnes;
@@ -96,8 +97,8 @@ fn size(kind: u64, deadweight: Deadweight, most: u64) -> u64
 
 // V_avg in 10^-9 knot.
 fn average(kind: u64, deadweight: Deadweight) -> Bounds
-    requires { ⌜ Within 1 7 kind × Within 100 600000 (deadweight .tonnes) ⌝ }
-    ensures { λ r. ⌜ r ≡ averageOf (kind-of kind) (deadweight-of deadweight) ⌝ }
+    requires { ⌜ Listed kind × Within 100 600000 (deadweight .tonnes) ⌝ }
+    ensures { λ r. ⌜ r ≡ average-of (kind-of kind) (deadweight-of deadweight) ⌝ }
 {
     let row = row_of(kind);
     let b = size(kind, deadweight, 80000);
@@ -112,7 +113,7 @@ fn average(kind: u64, deadweight: Deadweight) -> Bounds
 // The larger of 0.95 v and v - 1 knot, in 10^-9 knot.
 fn less_margin(v: u64) -> u64
     requires { ⌜ (1000000000 ≤ v) × (v ≤ 2 ^ 37) ⌝ }
-    ensures { λ r. ⌜ r ≡ lessMarginOf v ⌝ }
+    ensures { λ r. ⌜ r ≡ less-margin-of v ⌝ }
 {
     if v <= 20000000000 {
         v * 95 / 100
@@ -123,8 +124,8 @@ fn less_margin(v: u64) -> u64
 
 // Method 4; the power is the sum of P_ME in 1/100 kW.
 fn statistical(kind: u64, deadweight: Deadweight, power: u64) -> Bounds
-    requires { ⌜ Within 1 7 kind × Within 100 600000 (deadweight .tonnes) × Within 7500 36000000 power ⌝ }
-    ensures { λ r. ⌜ r ≡ statisticalOf (kind-of kind) (deadweight-of deadweight) power ⌝ }
+    requires { ⌜ Listed kind × Within 100 600000 (deadweight .tonnes) × Within 7500 36000000 power ⌝ }
+    ensures { λ r. ⌜ r ≡ statistical-of (kind-of kind) (deadweight-of deadweight) power ⌝ }
 {
     let row = row_of(kind);
     let v = average(kind, deadweight);
@@ -140,7 +141,7 @@ fn statistical(kind: u64, deadweight: Deadweight, power: u64) -> Bounds
 // Method 2: v in 1/100 knot at a trial of so many kW.
 fn trial(v: u64, kw: u64, power: u64) -> Bounds
     requires { ⌜ Within 500 6000 v × Within 1 600000 kw × Near (100 * kw) power × (power ≤ 36000000) ⌝ }
-    ensures { λ r. ⌜ r ≡ trialOf v kw power ⌝ }
+    ensures { λ r. ⌜ r ≡ trial-of v kw power ⌝ }
 {
     let w = v * 10000000;
     let base = Bounds { lo: w, hi: w };
@@ -153,7 +154,7 @@ fn trial(v: u64, kw: u64, power: u64) -> Bounds
 
 // k of method 3, in hundredths, of a type that has the method.
 fn k_of(kind: u64, deadweight: Deadweight) -> u64
-    requires { ⌜ Within 1 7 kind × By-design-draught (kind-of kind) ⌝ }
+    requires { ⌜ Listed kind × By-design-draught (kind-of kind) ⌝ }
     ensures { λ r. ⌜ r ≡ k (kind-of kind) (deadweight-of deadweight) ⌝ }
 {
     let t = deadweight.tonnes;
@@ -177,7 +178,7 @@ fn k_of(kind: u64, deadweight: Deadweight) -> u64
 // The cube root of n / 100, in 10^-9: the power is taken of the inverse, which is at least 1.
 fn root_of_k(n: u64) -> Bounds
     requires { ⌜ Within 90 100 n ⌝ }
-    ensures { λ r. ⌜ r ≡ kRootOf n ⌝ }
+    ensures { λ r. ⌜ r ≡ k-root-of n ⌝ }
 {
     let y = power::power(100, n, 1, 3);
     let one: u64 = 1073741824000000000;
@@ -189,7 +190,7 @@ fn root_of_k(n: u64) -> Bounds
 // v in 1/100 knot times g in 10^-9, as 10^-9 knot.
 fn times(v: u64, g: Bounds) -> Bounds
     requires { ⌜ (v ≤ 6000) × (g .lo ≤ 2 ^ 32) × (g .hi ≤ 2 ^ 32) ⌝ }
-    ensures { λ r. ⌜ r ≡ timesOf v g ⌝ }
+    ensures { λ r. ⌜ r ≡ times-of v g ⌝ }
 {
     let lo = v * g.lo / 100;
     let hi = (v * g.hi + 99) / 100;
@@ -199,7 +200,7 @@ fn times(v: u64, g: Bounds) -> Bounds
 // v g (a/b)^(2/9), where a is at least b.
 fn loaded_up(v: u64, g: Bounds, a: u64, b: u64) -> Split
     requires { ⌜ Within 500 6000 v × Factor g × Fives a b × (b ≤ a) ⌝ }
-    ensures { λ r. ⌜ r ≡ upOf v g a b ⌝ }
+    ensures { λ r. ⌜ r ≡ up-of v g a b ⌝ }
 {
     let x = power::power(a, b, 2, 9);
     let f = Bounds {
@@ -217,7 +218,7 @@ fn loaded_up(v: u64, g: Bounds, a: u64, b: u64) -> Split
 // And where it is less: over (b/a)^(2/9).
 fn loaded_down(v: u64, g: Bounds, a: u64, b: u64) -> Split
     requires { ⌜ Within 500 6000 v × Factor g × Fives a b × (a ≤ b) ⌝ }
-    ensures { λ r. ⌜ r ≡ downOf v g a b ⌝ }
+    ensures { λ r. ⌜ r ≡ down-of v g a b ⌝ }
 {
     let over = power::power(b, a, 2, 9);
     let base = times(v, g);
@@ -226,7 +227,7 @@ fn loaded_down(v: u64, g: Bounds, a: u64, b: u64) -> Split
 
 fn loaded(v: u64, g: Bounds, a: u64, b: u64) -> Split
     requires { ⌜ Within 500 6000 v × Factor g × Fives a b ⌝ }
-    ensures { λ r. ⌜ r ≡ partsOf v g a b ⌝ }
+    ensures { λ r. ⌜ r ≡ parts-of v g a b ⌝ }
 {
     if b <= a {
         loaded_up(v, g, a, b)
@@ -237,9 +238,10 @@ fn loaded(v: u64, g: Bounds, a: u64, b: u64) -> Split
 
 // Method 3, with the trial's deadweight.
 fn design(v: u64, trial: Trial, kind: u64, deadweight: Deadweight, power: u64) -> Bounds
-    requires { ⌜ Within 1 7 kind × Within 500 6000 v × Within 1 600000 (trial .power) × Near (100 * trial .power) power ⌝ }
-    requires { ⌜ (power ≤ 36000000) × Within 100 600000 (deadweight .tonnes) × Near (100 * trial .deadweight .tonnes) (hundredths (kind-of kind) (deadweight-of deadweight)) × By-design-draught (kind-of kind) ⌝ }
-    ensures { λ r. ⌜ r ≡ designOf v (trial .power) (deadweight-of (trial .deadweight)) (kind-of kind) (deadweight-of deadweight) power ⌝ }
+    requires { ⌜ Listed kind × Within 500 6000 v × Within 1 600000 (trial .power) × Near (100 * trial .power) power ⌝ }
+    requires { ⌜ (power ≤ 36000000) × Within 100 600000 (deadweight .tonnes)
+        × Near (100 * trial .deadweight .tonnes) (Capacity (kind-of kind) (deadweight-of deadweight)) × By-design-draught (kind-of kind) ⌝ }
+    ensures { λ r. ⌜ r ≡ design-of v (trial .power) (deadweight-of (trial .deadweight)) (kind-of kind) (deadweight-of deadweight) power ⌝ }
 {
     let g = root_of_k(k_of(kind, deadweight));
     let capacity = ship::power::capacity_of(kind, deadweight);
@@ -249,8 +251,8 @@ fn design(v: u64, trial: Trial, kind: u64, deadweight: Deadweight, power: u64) -
 
 // V_ref of a record with the speed v, in 1/100 knot, and the sum of P_ME, in 1/100 kW. What it asks, rules 5, 6, 9, 13 and 15 leave.
 pub fn speed(p: Particulars, v: u64, power: u64) -> Bounds
-    requires { ⌜ Within 1 7 (p .kind) × Within 1 4 (p .method) × Admitted (one-method (p .method) v (p .trial)) (kind-of (p .kind)) (deadweight-of (p .deadweight)) power ⌝ }
-    ensures { λ r. ⌜ r ≡ speedOf (one-method (p .method) v (p .trial)) (kind-of (p .kind)) (deadweight-of (p .deadweight)) power ⌝ }
+    requires { ⌜ Listed (p .kind) × Within 1 4 (p .method) × Accepted-speed (method-of (p .method) v (p .trial)) (kind-of (p .kind)) (deadweight-of (p .deadweight)) power ⌝ }
+    ensures { λ r. ⌜ r ≡ speed-by (method-of (p .method) v (p .trial)) (kind-of (p .kind)) (deadweight-of (p .deadweight)) power ⌝ }
 {
     let method = p.method;
     let deadweight = p.deadweight;

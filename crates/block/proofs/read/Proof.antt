@@ -10,26 +10,12 @@ use borrow.Author.Needs.{needs}
 use Rattle.block.proofs.read.Statement.{statement}
 use Rattle.block.proofs.read.Tie as tie
 
-empty-requires : tie.Need-empty-requires
-empty-requires c κs = search needs
-
 returns : tie.Need-returns
 returns c = ap (loaded Length) (c .empty .ensures) ∙ read-short _ (c .before .if1 .taken)
 
-ship-in-requires : tie.Need-ship-in-requires
-ship-in-requires c κs = search needs
-
-block-refusal-requires : tie.Need-block-refusal-requires
-block-refusal-requires c κs = search needs
-
-number-requires : tie.Need-number-requires
-number-requires c κs = search needs
-
-empty-requires-2 : tie.Need-empty-requires-2
-empty-requires-2 c κs = search needs
-
 -- The refusal of a block of 512 bytes, and its number.
-refusal-is : (c : tie.After-number) → c .before .block-refusal .result ≡ first-of (block-tests (c .before .before .before .before .before .args .block .now) (ship-in (c .before .before .before .before .before .args .block .now))) None
+refusal-is : (c : tie.After-number) → let b = c .before .before .before .before .before .args .block .now in
+    c .before .block-refusal .result ≡ first-of (block-tests b (ship-in b)) None
 refusal-is c = rw (← c .before .before .ship-in .ensures) (c .before .block-refusal .ensures)
 
 returns-2 : tie.Need-returns-2
@@ -46,13 +32,4 @@ returns-3 c =
 
 pub read-spec : {M : Type 1} → statement M
 read-spec =
-    tie.close
-    (tie.spec
-    empty-requires
-    returns
-    ship-in-requires
-    block-refusal-requires
-    number-requires
-    empty-requires-2
-    returns-2
-    returns-3)
+    tie.close (tie.spec (λ c κs. search needs) returns (λ c κs. search needs) (λ c κs. search needs) (λ c κs. search needs) (λ c κs. search needs) returns-2 returns-3)

@@ -10,12 +10,6 @@ use borrow.Author.Needs.{needs}
 use Rattle.block.proofs.write.Statement.{statement}
 use Rattle.block.proofs.write.Tie as tie
 
-refusal-requires : tie.Need-refusal-requires
-refusal-requires c κs = search needs
-
-number-requires : tie.Need-number-requires
-number-requires c κs = search needs
-
 returns : tie.Need-returns
 returns c =
     let e = c .before .before .refusal .ensures in
@@ -34,26 +28,8 @@ returns-2 c =
     let a = c .before .before .before .before .before .args in
     write-no-block (a .file .now) (a .number) (a .ship) (own-none (c .before)) (c .if2 .taken)
 
-mul-at : tie.Need-mul-at
-mul-at c = search needs
-
-add-end : tie.Need-add-end
-add-end c = search needs
-
-sub-write-block : tie.Need-sub-write-block
-sub-write-block c = search needs
-
-part-write-block-start : tie.Need-part-write-block-start
-part-write-block-start c = search needs
-
 part-write-block-end : tie.Need-part-write-block-end
 part-write-block-end c = search needs
-
-write-block-requires : tie.Need-write-block-requires
-write-block-requires c κs = search needs
-
-same-length : tie.Need-same-length
-same-length c = search needs
 
 returns-3 : tie.Need-returns-3
 returns-3 c =
@@ -66,15 +42,5 @@ pub write-spec : {M : Type 1} → statement M
 write-spec =
     tie.close
     (tie.spec
-    refusal-requires
-    number-requires
-    returns
-    returns-2
-    mul-at
-    add-end
-    sub-write-block
-    part-write-block-start
-    part-write-block-end
-    write-block-requires
-    same-length
-    returns-3)
+    (λ c κs. search needs) (λ c κs. search needs) returns returns-2 (λ c. search needs) (λ c. search needs) (λ c. search needs) (λ c. search needs)
+    part-write-block-end (λ c κs. search needs) (λ c. search needs) returns-3)

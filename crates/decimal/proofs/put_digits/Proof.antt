@@ -23,9 +23,6 @@ loop-holds c = (omega arith, refl, stored-start (c .args .n) _ (c .args .part .n
 sub-left : tie.Need-sub-left Inv-loop μ-loop
 sub-left c = omega arith
 
-cast-part : tie.Need-cast-part Inv-loop μ-loop
-cast-part c = search needs
-
 add-part : tie.Need-add-part Inv-loop μ-loop
 add-part c = omega arith
 
@@ -52,16 +49,4 @@ returns c =
 
 pub put-digits-spec : {M : Type 1} → statement M
 put-digits-spec =
-    tie.close
-    (tie.spec
-    Inv-loop
-    μ-loop
-    loop-holds
-    sub-left
-    cast-part
-    add-part
-    slice-write-part
-    loop-less
-    loop-again
-    same-length
-    returns)
+    tie.close (tie.spec Inv-loop μ-loop loop-holds sub-left (λ c. search needs) add-part slice-write-part loop-less loop-again same-length returns)

@@ -7,9 +7,6 @@ use Rattle.desk.proofs.Answering.{refused, bounded, is-none}
 use Rattle.desk.proofs.answered.Statement.{statement}
 use Rattle.desk.proofs.answered.Tie as tie
 
-number-requires : tie.Need-number-requires
-number-requires c κs = search needs
-
 returns : tie.Need-returns
 returns c = refused _ refl (λ e. c .if1 .taken (c .before .number .ensures ∙ e))
 
@@ -26,4 +23,4 @@ returns-2 : tie.Need-returns-2
 returns-2 c = bounded _ (own-none (c .before .before)) (c .attained .ensures)
 
 pub answered-spec : {M : Type 1} → statement M
-answered-spec = tie.close (tie.spec number-requires returns speeds-requires attained-requires returns-2)
+answered-spec = tie.close (tie.spec (λ c κs. search needs) returns speeds-requires attained-requires returns-2)

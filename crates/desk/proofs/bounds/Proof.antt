@@ -6,9 +6,6 @@ use Rattle.desk.specs.Answers.{answer-by, answer-of}
 use Rattle.desk.proofs.bounds.Statement.{statement}
 use Rattle.desk.proofs.bounds.Tie as tie
 
-refusal-requires : tie.Need-refusal-requires
-refusal-requires c κs = search needs
-
 answered-requires : tie.Need-answered-requires
 answered-requires c κs e = sym (c .refusal .ensures) ∙ e
 
@@ -17,4 +14,4 @@ unfolding answer-of
 returns c = c .answered .ensures ∙ ap (λ r. answer-by r (c .before .before .args .s)) (c .before .refusal .ensures)
 
 pub bounds-spec : {M : Type 1} → statement M
-bounds-spec = tie.close (tie.spec refusal-requires answered-requires returns)
+bounds-spec = tie.close (tie.spec (λ c κs. search needs) answered-requires returns)

@@ -4,26 +4,23 @@ use mathlib.Core.Path.{_∙_}
 use native.Mathlib.Omega.{arith}
 use borrow.Author.Needs.{needs}
 use Rattle.ship.specs.Figures.{figures}
-use Rattle.ship.proofs.Right.{Right, right}
+use Rattle.ship.proofs.Right.{Accepted-numbers, numbers-accepted}
 use Rattle.factor.proofs.Laws.{of-bulk, of-vehicle, of-others}
 use Rattle.factor.proofs.factor.Statement.{statement}
 use Rattle.factor.proofs.factor.Tie as tie
 
-given : (c : tie.Start) → Right (c .args .s)
-given c = right (c .args .s) (c .pre)
+given : (c : tie.Start) → Accepted-numbers (c .args .s)
+given c = numbers-accepted (c .args .s) (c .pre)
 
 light-cargo-requires : tie.Need-light-cargo-requires
 light-cargo-requires c κs =
     let r = given (c .before .before .before .before) in
-    (r .deadweight, record { least = r .volume .least (c .match .keys1); most = r .volume .most })
+    (r .deadweight, record { least = r .cargo .least (c .match .keys1); most = r .cargo .most })
 
 light-vehicles-requires : tie.Need-light-vehicles-requires
 light-vehicles-requires c κs =
     let r = given (c .before .before .before .before) in
     (r .deadweight, record { least = r .gross .least (c .match .keys2); most = r .gross .most })
-
-exactly-one-requires : tie.Need-exactly-one-requires
-exactly-one-requires c κs = search needs
 
 returns : tie.Need-returns
 unfolding figures
@@ -51,14 +48,4 @@ returns-5 : tie.Need-returns-5
 returns-5 c = absurd (omega (arith, given (c .before .before .before .before .before .before) .kind))
 
 pub factor-spec : {M : Type 1} → statement M
-factor-spec =
-    tie.close
-    (tie.spec
-    light-cargo-requires
-    light-vehicles-requires
-    exactly-one-requires
-    returns
-    returns-2
-    returns-3
-    returns-4
-    returns-5)
+factor-spec = tie.close (tie.spec light-cargo-requires light-vehicles-requires (λ c κs. search needs) returns returns-2 returns-3 returns-4 returns-5)

@@ -19,30 +19,11 @@ Inv-loop bytes a₀ b₀ i₀ a b i =
 abbrev μ-loop : tie.MeasureT-loop
 μ-loop bytes a₀ b₀ i₀ a b i = length bytes - i
 
-cast-b : tie.Need-cast-b Inv-loop μ-loop
-cast-b c = search needs
-
 loop-holds : tie.Need-loop-holds Inv-loop μ-loop
 loop-holds c = ((omega arith, omega arith, omega arith), refl, omega arith)
 
-sub-times : tie.Need-sub-times Inv-loop μ-loop
-sub-times c = omega arith
-
-cast-times : tie.Need-cast-times Inv-loop μ-loop
-cast-times c = omega arith
-
-shared-slice-read-wrapping-add-u16 : tie.Need-shared-slice-read-wrapping-add-u16 Inv-loop μ-loop
-shared-slice-read-wrapping-add-u16 c = omega arith
-
 cast-wrapping-add-u16 : tie.Need-cast-wrapping-add-u16 Inv-loop μ-loop
 cast-wrapping-add-u16 c = omega (arith, c .shared-slice-known2 .given (c .before .before .loop .i))
-
-wrapping-add-u16-requires : tie.Need-wrapping-add-u16-requires Inv-loop μ-loop
-wrapping-add-u16-requires c κs = search needs
-
-shared-slice-read-wrapping-add-u16-2 :
-    tie.Need-shared-slice-read-wrapping-add-u16-2 Inv-loop μ-loop
-shared-slice-read-wrapping-add-u16-2 c = omega arith
 
 cast-wrapping-add-u16-2 : tie.Need-cast-wrapping-add-u16-2 Inv-loop μ-loop
 cast-wrapping-add-u16-2 c = omega (arith, c .shared-slice-known3 .given (c .before .before .before .before .loop .i))
@@ -54,18 +35,6 @@ mul-wrapping-add-u16 c =
     let times : (length xs - l .loop .i) % 65536 ≤ 65535 = omega arith in
     let byte : getD xs (l .loop .i) 0 ≤ 255 = omega (arith, c .shared-slice-known3 .given (l .loop .i)) in
     omega (arith, mul-le-mul times byte)
-
-cast-wrapping-add-u16-3 : tie.Need-cast-wrapping-add-u16-3 Inv-loop μ-loop
-cast-wrapping-add-u16-3 c = omega arith
-
-wrapping-add-u16-requires-2 : tie.Need-wrapping-add-u16-requires-2 Inv-loop μ-loop
-wrapping-add-u16-requires-2 c κs = search needs
-
-add-i : tie.Need-add-i Inv-loop μ-loop
-add-i c = omega arith
-
-loop-less : tie.Need-loop-less Inv-loop μ-loop
-loop-less c = omega arith
 
 loop-again : tie.Need-loop-again Inv-loop μ-loop
 loop-again c =
@@ -94,21 +63,6 @@ pub check-sums-spec : {M : Type 1} → statement M
 check-sums-spec =
     tie.close
     (tie.spec
-    Inv-loop
-    μ-loop
-    cast-b
-    loop-holds
-    sub-times
-    cast-times
-    shared-slice-read-wrapping-add-u16
-    cast-wrapping-add-u16
-    wrapping-add-u16-requires
-    shared-slice-read-wrapping-add-u16-2
-    cast-wrapping-add-u16-2
-    mul-wrapping-add-u16
-    cast-wrapping-add-u16-3
-    wrapping-add-u16-requires-2
-    add-i
-    loop-less
-    loop-again
-    returns)
+    Inv-loop μ-loop (λ c. search needs) loop-holds (λ c. omega arith) (λ c. omega arith) (λ c. omega arith) cast-wrapping-add-u16 (λ c κs. search needs)
+    (λ c. omega arith) cast-wrapping-add-u16-2 mul-wrapping-add-u16 (λ c. omega arith) (λ c κs. search needs) (λ c. omega arith) (λ c. omega arith)
+    loop-again returns)

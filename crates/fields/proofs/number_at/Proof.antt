@@ -19,15 +19,6 @@ abbrev μ-loop : tie.MeasureT-loop
 loop-holds : tie.Need-loop-holds Inv-loop μ-loop
 loop-holds c = (omega arith, omega arith, omega arith, rw sub-self (sym (number-none (c .args .bytes .now) (c .args .at + c .args .width))))
 
-sub-left : tie.Need-sub-left Inv-loop μ-loop
-sub-left c = omega arith
-
-add-byte : tie.Need-add-byte Inv-loop μ-loop
-add-byte c = omega arith
-
-shared-slice-read-byte : tie.Need-shared-slice-read-byte Inv-loop μ-loop
-shared-slice-read-byte c = omega arith
-
 cast-byte : tie.Need-cast-byte Inv-loop μ-loop
 cast-byte c = omega (arith, c .shared-slice-known .given (c .before .before .before .args .at + (c .before .before .loop .left - 1)))
 
@@ -36,16 +27,14 @@ room : (c : tie.After-shared-slice-known Inv-loop μ-loop) → c .before .before
 room c =
     let l = c .before .before in
     let a = l .before .args in
-    number-room (a .bytes .now) (a .at) (a .width) (l .loop .left) _ (omega arith) (omega arith) (omega arith) (l .loop .inv .3) (each-byte (a .bytes .now) (λ i. c .shared-slice-known .given i .fits)) (omega arith)
+    number-room (a .bytes .now) (a .at) (a .width) (l .loop .left) _ (omega arith) (omega arith) (omega arith) (l .loop .inv .3)
+    (each-byte (a .bytes .now) (λ i. c .shared-slice-known .given i .fits)) (omega arith)
 
 mul-n : tie.Need-mul-n Inv-loop μ-loop
 mul-n c = omega (arith, room c)
 
 add-n : tie.Need-add-n Inv-loop μ-loop
 add-n c = omega (arith, room c, c .shared-slice-known .given (c .before .before .before .args .at + (c .before .before .loop .left - 1)))
-
-loop-less : tie.Need-loop-less Inv-loop μ-loop
-loop-less c = omega arith
 
 loop-again : tie.Need-loop-again Inv-loop μ-loop
 loop-again c =
@@ -64,17 +53,4 @@ returns c =
 
 pub number-at-spec : {M : Type 1} → statement M
 number-at-spec =
-    tie.close
-    (tie.spec
-    Inv-loop
-    μ-loop
-    loop-holds
-    sub-left
-    add-byte
-    shared-slice-read-byte
-    cast-byte
-    mul-n
-    add-n
-    loop-less
-    loop-again
-    returns)
+    tie.close (tie.spec Inv-loop μ-loop loop-holds (λ c. omega arith) (λ c. omega arith) (λ c. omega arith) cast-byte mul-n add-n (λ c. omega arith) loop-again returns)

@@ -10,37 +10,11 @@ Inv-loop left₀ left = Unit {0}
 abbrev μ-loop : tie.MeasureT-loop
 μ-loop left₀ left = left
 
-loop-holds : tie.Need-loop-holds Inv-loop μ-loop
-loop-holds c = tt
-
-one-requires : tie.Need-one-requires Inv-loop μ-loop
-one-requires c κs = tt
-
-returns : tie.Need-returns Inv-loop μ-loop
-returns c = tt
-
 sub-left : tie.Need-sub-left Inv-loop μ-loop
 sub-left c = omega arith
 
 loop-less : tie.Need-loop-less Inv-loop μ-loop
 loop-less c = omega arith
 
-loop-again : tie.Need-loop-again Inv-loop μ-loop
-loop-again c = tt
-
-returns-2 : tie.Need-returns-2 Inv-loop μ-loop
-returns-2 c = tt
-
 pub main-spec : {M : Type 1} → statement M
-main-spec =
-    tie.close
-    (tie.spec
-    Inv-loop
-    μ-loop
-    loop-holds
-    one-requires
-    returns
-    sub-left
-    loop-less
-    loop-again
-    returns-2)
+main-spec = tie.close (tie.spec Inv-loop μ-loop (λ c. tt) (λ c κs. tt) (λ c. tt) sub-left loop-less (λ c. tt) (λ c. tt))

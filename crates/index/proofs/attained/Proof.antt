@@ -1,55 +1,52 @@
 -- `index::attained` meets its contract. Assumes nothing.
+use Prim.Native.Nat.{_+_}
 use mathlib.Core.Path.{_∙_}
-use native.Mathlib.Nat.{mul-le-mul}
 use native.Mathlib.Omega.{arith}
 use borrow.Author.Needs.{needs}
 use Rattle.ship.proofs.Typed.{four}
-use Rattle.index.specs.Attained.{index-of}
+use Rattle.index.specs.Attained.{Sized, index-of}
 use Rattle.index.proofs.Records.{lower-sized, upper-sized, lower-named, upper-named}
 use Rattle.index.proofs.attained.Statement.{statement}
 use Rattle.index.proofs.attained.Tie as tie
 
-factor-requires : tie.Need-factor-requires
-factor-requires c κs = search needs
+-- What the two roundings ask.
+lower-asked : (c : tie.After-emissions) → Sized (c .emissions .result .main .low + c .emissions .result .auxiliary .low) (c .before .load .result) (c .before .before .before .before .before .args .v .most .hi) (c .before .before .before .before .factor .result .hi)
+lower-asked c =
+    let f = c .before .before .before .before in
+    let s = f .before in
+    lower-sized (s .args .s) (four (s .args .s) _ (s .good .0)) (s .pre .0) (s .pre .1) (f .factor .ensures) (c .before .load .ensures) (c .emissions .ensures)
 
-capacity-requires : tie.Need-capacity-requires
-capacity-requires c κs = search needs
+upper-asked : (c : tie.After-emissions) → Sized (c .emissions .result .main .high + c .emissions .result .auxiliary .high) (c .before .load .result) (c .before .before .before .before .before .args .v .least .lo) (c .before .before .before .before .factor .result .lo)
+upper-asked c =
+    let f = c .before .before .before .before in
+    let s = f .before in
+    upper-sized (s .args .s) (four (s .args .s) _ (s .good .0)) (s .pre .0) (s .pre .1) (f .factor .ensures) (c .before .load .ensures) (c .emissions .ensures)
 
-ice-factor-requires : tie.Need-ice-factor-requires
-ice-factor-requires c κs = search needs
-
-mul-load : tie.Need-mul-load
-mul-load c = omega (arith, mul-le-mul (c .before .capacity .ensures .1 .most) (c .ice-factor .ensures .1 .most))
-
-emissions-requires : tie.Need-emissions-requires
-emissions-requires c κs = search needs
+add-lower : tie.Need-add-lower
+add-lower c = omega (arith, lower-asked (c .before) .emitted)
 
 lower-requires : tie.Need-lower-requires
-lower-requires c κs =
-    let f = c .before .before .before .before .before in
-    let s = f .before in
-    lower-sized (s .args .s) (four (s .args .s) _ (s .good .0)) (s .pre .0) (s .pre .1) (f .factor .ensures) (c .before .before .capacity .ensures .0) (c .before .ice-factor .ensures .0) (c .emissions .ensures .0)
+lower-requires c κs = lower-asked (c .before)
 
-emissions-requires-2 : tie.Need-emissions-requires-2
-emissions-requires-2 c κs = search needs
+add-upper : tie.Need-add-upper
+add-upper c = omega (arith, upper-asked (c .before .before .before) .emitted)
 
 upper-requires : tie.Need-upper-requires
-upper-requires c κs =
-    let f = c .before .before .before .before .before .before .before in
-    let s = f .before in
-    upper-sized (s .args .s) (four (s .args .s) _ (s .good .0)) (s .pre .0) (s .pre .1) (f .factor .ensures) (c .before .before .before .before .capacity .ensures .0) (c .before .before .before .ice-factor .ensures .0) (c .emissions2 .ensures .0)
+upper-requires c κs = upper-asked (c .before .before .before)
 
 returns : tie.Need-returns
 unfolding index-of
 returns c =
-    let f = c .before .before .before .before .before .before .before .before in
+    let l = c .before .before in
+    let e = l .before .before in
+    let f = e .before .before .before .before in
     let s = f .before in
-    let ship = s .args .s in
-    let length = four ship _ (s .good .0) in
+    let length = four (s .args .s) _ (s .good .0) in
     rw (
-      c .before .before .lower .ensures ∙ lower-named ship length (s .pre .0) (s .pre .1) (f .factor .ensures) (c .before .before .before .before .before .capacity .ensures .0) (c .before .before .before .before .ice-factor .ensures .0) (c .before .before .before .emissions .ensures .0),
-      c .upper .ensures ∙ upper-named ship length (s .pre .0) (s .pre .1) (f .factor .ensures) (c .before .before .before .before .before .capacity .ensures .0) (c .before .before .before .before .ice-factor .ensures .0) (c .before .emissions2 .ensures .0),
+      l .lower .ensures ∙ lower-named (s .args .s) length (s .pre .0) (s .pre .1) (f .factor .ensures) (e .before .load .ensures) (e .emissions .ensures),
+      c .upper .ensures ∙ upper-named (s .args .s) length (s .pre .0) (s .pre .1) (f .factor .ensures) (e .before .load .ensures) (e .emissions .ensures),
     )
 
 pub attained-spec : {M : Type 1} → statement M
-attained-spec = tie.close (tie.spec factor-requires capacity-requires ice-factor-requires mul-load emissions-requires lower-requires emissions-requires-2 upper-requires returns)
+attained-spec =
+    tie.close (tie.spec (λ c κs. search needs) (λ c κs. search needs) (λ c κs. search needs) add-lower lower-requires add-upper upper-requires returns)

@@ -6,21 +6,6 @@ use borrow.Author.Needs.{needs}
 use Rattle.lines.proofs.put_bounds.Statement.{statement}
 use Rattle.lines.proofs.put_bounds.Tie as tie
 
-put-number-requires : tie.Need-put-number-requires
-put-number-requires c κs = search needs
-
-put-number-requires-2 : tie.Need-put-number-requires-2
-put-number-requires-2 c κs = search needs
-
-put-number-requires-3 : tie.Need-put-number-requires-3
-put-number-requires-3 c κs = search needs
-
-put-number-requires-4 : tie.Need-put-number-requires-4
-put-number-requires-4 c κs = search needs
-
-same-length : tie.Need-same-length
-same-length c = search needs
-
 returns : tie.Need-returns
 returns c =
     let upper = c .before .before in
@@ -35,11 +20,4 @@ returns c =
 
 pub put-bounds-spec : {M : Type 1} → statement M
 put-bounds-spec =
-    tie.close
-    (tie.spec
-    put-number-requires
-    put-number-requires-2
-    put-number-requires-3
-    put-number-requires-4
-    same-length
-    returns)
+    tie.close (tie.spec (λ c κs. search needs) (λ c κs. search needs) (λ c κs. search needs) (λ c κs. search needs) (λ c. search needs) returns)

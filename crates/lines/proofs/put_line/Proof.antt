@@ -8,35 +8,11 @@ use borrow.Author.Needs.{needs}
 use Rattle.lines.proofs.put_line.Statement.{statement}
 use Rattle.lines.proofs.put_line.Tie as tie
 
-bounds-of-block-requires : tie.Need-bounds-of-block-requires
-bounds-of-block-requires c κs = search needs
-
-enum-known-answer : tie.Need-enum-known-answer
-enum-known-answer c = search needs
-
 number-at-requires : tie.Need-number-at-requires
 number-at-requires c κs =
     let known = c .before .before in
     let e = bounds-whole _ _ (sym (known .answer .given .1) ∙ known .before .before .bounds-of-block .ensures) in
     (omega arith, omega arith)
-
-put-bounds-requires : tie.Need-put-bounds-requires
-put-bounds-requires c κs = search needs
-
-enum-known-answer-2 : tie.Need-enum-known-answer-2
-enum-known-answer-2 c = search needs
-
-number-requires : tie.Need-number-requires
-number-requires c κs = search needs
-
-cast-put-refusal : tie.Need-cast-put-refusal
-cast-put-refusal c = search needs
-
-put-refusal-requires : tie.Need-put-refusal-requires
-put-refusal-requires c κs = search needs
-
-same-length : tie.Need-same-length
-same-length c = search needs
 
 returns : tie.Need-returns
 returns c =
@@ -44,9 +20,6 @@ returns c =
     let known = put .before .before .before .before in
     let e = sym (known .answer .given .1) ∙ known .before .before .bounds-of-block .ensures in
     (put-as (line-bounds _ _ _ _ e (put .before .number-at .ensures)) (put .put-bounds .ensures .0), put .put-bounds .ensures .1)
-
-same-length-2 : tie.Need-same-length-2
-same-length-2 c = search needs
 
 returns-2 : tie.Need-returns-2
 returns-2 c =
@@ -59,15 +32,5 @@ pub put-line-spec : {M : Type 1} → statement M
 put-line-spec =
     tie.close
     (tie.spec
-    bounds-of-block-requires
-    enum-known-answer
-    number-at-requires
-    put-bounds-requires
-    enum-known-answer-2
-    number-requires
-    cast-put-refusal
-    put-refusal-requires
-    same-length
-    returns
-    same-length-2
-    returns-2)
+    (λ c κs. search needs) (λ c. search needs) number-at-requires (λ c κs. search needs) (λ c. search needs) (λ c κs. search needs)
+    (λ c. search needs) (λ c κs. search needs) (λ c. search needs) returns (λ c. search needs) returns-2)

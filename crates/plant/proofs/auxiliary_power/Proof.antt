@@ -16,15 +16,6 @@ returns c =
     let a = c .before .args in
     (by-table (a .method) (a .table) (a .rated) (c .if1 .taken), omega (arith, table-most (a .method) (a .table) (a .rated) (c .if1 .taken) (c .before .pre .0)))
 
-mul-result-2 : tie.Need-mul-result-2
-mul-result-2 c = search needs
-
-mul-result-3 : tie.Need-mul-result-3
-mul-result-3 c = search needs
-
-add-result : tie.Need-add-result
-add-result c = search needs
-
 returns-2 : tie.Need-returns-2
 returns-2 c =
     let a = c .before .before .args in
@@ -36,6 +27,4 @@ returns-3 c =
     (large-plant (a .method) (a .table) (a .rated) (c .before .if1 .left) (c .if2 .left), search needs)
 
 pub auxiliary-power-spec : {M : Type 1} → statement M
-auxiliary-power-spec =
-    tie.close
-    (tie.spec mul-result returns mul-result-2 mul-result-3 add-result returns-2 returns-3)
+auxiliary-power-spec = tie.close (tie.spec mul-result returns (λ c. search needs) (λ c. search needs) (λ c. search needs) returns-2 returns-3)

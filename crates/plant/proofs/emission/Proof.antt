@@ -18,12 +18,6 @@ product c =
     rw (c .before .conversion .ensures, c .end-of .ensures)
     (with-source (start .args .high) (start .args .stand-in) (start .pre .1) (start .args .uses) (start .pre .0 .0) (c .before .before .before .if1 .left))
 
-mul-result : tie.Need-mul-result
-mul-result c = search needs
-
-mul-result-2 : tie.Need-mul-result-2
-mul-result-2 c = search needs
-
 returns : tie.Need-returns
 returns c =
     let start = c .before .before in
@@ -32,9 +26,6 @@ returns c =
 conversion-requires : tie.Need-conversion-requires
 conversion-requires c κs = c .before .before .before .pre .0 .1 (c .before .if1 .left)
 
-end-of-requires : tie.Need-end-of-requires
-end-of-requires c κs = search needs
-
 mul-result-3 : tie.Need-mul-result-3
 mul-result-3 c = omega (arith, product c .1)
 
@@ -42,13 +33,4 @@ returns-2 : tie.Need-returns-2
 returns-2 c = product c
 
 pub emission-spec : {M : Type 1} → statement M
-emission-spec =
-    tie.close
-    (tie.spec
-    mul-result
-    mul-result-2
-    returns
-    conversion-requires
-    end-of-requires
-    mul-result-3
-    returns-2)
+emission-spec = tie.close (tie.spec (λ c. search needs) (λ c. search needs) returns conversion-requires (λ c κs. search needs) mul-result-3 returns-2)

@@ -6,16 +6,10 @@ use Rattle.number.proofs.Divisions.{floor-floor, floor-is, floor-named}
 use Rattle.speed.proofs.quotient_down.Statement.{statement}
 use Rattle.speed.proofs.quotient_down.Tie as tie
 
-floor-scaled-requires : tie.Need-floor-scaled-requires
-floor-scaled-requires c κs = search needs
-
-div-result : tie.Need-div-result
-div-result c = search needs
-
 returns : tie.Need-returns
 returns c =
     let at = c .before in
     floor-named (mul-pos (omega (arith, at .pre .0)) (at .pre .3)) (floor-floor (c .floor-scaled .ensures) (floor-is _ _ (at .pre .3)))
 
 pub quotient-down-spec : {M : Type 1} → statement M
-quotient-down-spec = tie.close (tie.spec floor-scaled-requires div-result returns)
+quotient-down-spec = tie.close (tie.spec (λ c κs. search needs) (λ c. search needs) returns)

@@ -7,20 +7,11 @@ use Rattle.number.proofs.Divisions.{ceil-ceil, ceil-is, ceil-named, ceil-least}
 use Rattle.speed.proofs.quotient_up.Statement.{statement}
 use Rattle.speed.proofs.quotient_up.Tie as tie
 
-ceil-scaled-requires : tie.Need-ceil-scaled-requires
-ceil-scaled-requires c κs = search needs
-
-sub-result : tie.Need-sub-result
-sub-result c = search needs
-
 add-result : tie.Need-add-result
 add-result c =
     let at = c .before in
     let top : c .ceil-scaled .result ≤ 2 ^ 62 = ceil-least (c .ceil-scaled .ensures) (2 ^ 62) (omega (arith, at .pre .0, at .pre .2)) in
     omega (arith, at .pre .4)
-
-div-result : tie.Need-div-result
-div-result c = search needs
 
 returns : tie.Need-returns
 returns c =
@@ -28,4 +19,4 @@ returns c =
     ceil-named (mul-pos (omega (arith, at .pre .0)) (at .pre .3)) (ceil-ceil (c .ceil-scaled .ensures) (ceil-is _ _ (at .pre .3)))
 
 pub quotient-up-spec : {M : Type 1} → statement M
-quotient-up-spec = tie.close (tie.spec ceil-scaled-requires sub-result add-result div-result returns)
+quotient-up-spec = tie.close (tie.spec (λ c κs. search needs) (λ c. search needs) add-result (λ c. search needs) returns)

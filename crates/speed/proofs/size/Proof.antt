@@ -2,7 +2,7 @@
 use native.Mathlib.Omega.{arith}
 use borrow.Author.Tests.{eq-eqb, ne-eqb}
 use Rattle.exact.specs.Index.{sized}
-use Rattle.speed.proofs.Rows.{is-container}
+use Rattle.ship.proofs.Numbered.{is-container}
 use Rattle.speed.proofs.size.Statement.{statement}
 use Rattle.speed.proofs.size.Tie as tie
 

@@ -4,18 +4,11 @@ use native.Mathlib.Nat.{le-trans}
 use native.Mathlib.Omega.{arith}
 use borrow.Author.Needs.{needs}
 use Rattle.ship.specs.Figures.{kind-of, deadweight-of}
-use Rattle.speed.specs.Speeds.{statisticalOf}
+use Rattle.speed.specs.Speeds.{statistical-of}
 use Rattle.speed.proofs.Rows.{row-fits}
-use Rattle.speed.proofs.Statistics.{Averaged, averaged, kept}
-use Rattle.speed.proofs.MethodFour.{over-raisable, statistical-parted, statistical-moderate}
+use Rattle.speed.proofs.Statistics.{Averaged, averaged, kept, over-raisable, statistical-parted, statistical-moderate}
 use Rattle.speed.proofs.statistical.Statement.{statement}
 use Rattle.speed.proofs.statistical.Tie as tie
-
-row-of-requires : tie.Need-row-of-requires
-row-of-requires c κs = search needs
-
-average-requires : tie.Need-average-requires
-average-requires c κs = search needs
 
 average-is : (c : tie.After-average) → Averaged (kind-of (c .before .before .args .kind)) (deadweight-of (c .before .before .args .deadweight)) (c .average .result)
 average-is c = rw (c .average .ensures) (averaged _ _ (c .before .before .pre .1))
@@ -35,70 +28,42 @@ add-speed-from c =
     let h : c .less-margin2 .result ≤ 2 ^ 37 = rw (c .less-margin2 .ensures) (le-trans (kept _ .less) (average-is (c .before .before) .high)) in
     omega arith
 
-size-requires : tie.Need-size-requires
-size-requires c κs = search needs
-
 power-requires : tie.Need-power-requires
 power-requires c κs =
     let s = c .before .before .before .before .before in
     rw (c .size .ensures, c .before .before .before .before .row-of .ensures .f-is)
     (over-raisable (kind-of (s .args .kind)) (deadweight-of (s .args .deadweight)) (s .args .power) (s .pre .1) (s .pre .2))
 
-mul-speed-from : tie.Need-mul-speed-from
-mul-speed-from c = search needs
-
 mul-speed-from-2 : tie.Need-mul-speed-from-2
 mul-speed-from-2 c =
     let row = c .before .before .before .before .before .before in
-    let h : row .row-of .result .d ≤ 2627693 = rw (row .row-of .ensures .d-is) (row-fits (kind-of (row .before .args .kind)) .d-high) in
+    let h : row .row-of .result .d ≤ 2627693 = rw (row .row-of .ensures .d-is) (row-fits (kind-of (row .before .args .kind)) .2 .d-high) in
     omega arith
 
 speed-from-requires : tie.Need-speed-from-requires
 speed-from-requires c κs =
-    let at = c .before in
-    let row = at .before .before .before .before .before in
+    let size = c .before .before in
+    let low = size .before .before in
+    let row = low .before .before in
     let s = row .before in
-    rw (
-      at .before .before .before .less-margin .ensures,
-      at .before .before .less-margin2 .ensures,
-      at .before .before .before .before .average .ensures,
-      at .power .ensures,
-      at .before .size .ensures,
-      row .row-of .ensures .f-is,
-      row .row-of .ensures .d-is,
-    ) (
-      statistical-parted (kind-of (s .args .kind)) (deadweight-of (s .args .deadweight)) (s .args .power) (s .pre .1) (s .pre .2),
-      statistical-moderate (kind-of (s .args .kind)) (deadweight-of (s .args .deadweight)) (s .args .power) (s .pre .1) (s .pre .2),
-    )
+    let kind = kind-of (s .args .kind) in
+    let dwt = deadweight-of (s .args .deadweight) in
+    rw (low .less-margin .ensures, size .before .less-margin2 .ensures, low .before .average .ensures, c .before .power .ensures, size .size .ensures)
+    (rw (row .row-of .ensures .f-is, row .row-of .ensures .d-is)
+    (statistical-parted kind dwt (s .args .power) (s .pre .1) (s .pre .2), statistical-moderate kind dwt (s .args .power) (s .pre .1) (s .pre .2)))
 
 returns : tie.Need-returns
-unfolding statisticalOf
+unfolding statistical-of
 returns c =
-    let at = c .before .before in
-    let row = at .before .before .before .before .before in
-    rw (
-      c .speed-from .ensures,
-      at .before .before .before .less-margin .ensures,
-      at .before .before .less-margin2 .ensures,
-      at .before .before .before .before .average .ensures,
-      at .power .ensures,
-      at .before .size .ensures,
-      row .row-of .ensures .f-is,
-      row .row-of .ensures .d-is,
-    )
+    let size = c .before .before .before in
+    let low = size .before .before in
+    let row = low .before .before .row-of .ensures in
+    rw (c .speed-from .ensures, low .less-margin .ensures, size .before .less-margin2 .ensures, low .before .average .ensures, c .before .before .power .ensures)
+    (rw (size .size .ensures, row .f-is, row .d-is))
 
 pub statistical-spec : {M : Type 1} → statement M
 statistical-spec =
     tie.close
     (tie.spec
-    row-of-requires
-    average-requires
-    less-margin-requires
-    less-margin-requires-2
-    add-speed-from
-    size-requires
-    power-requires
-    mul-speed-from
-    mul-speed-from-2
-    speed-from-requires
-    returns)
+    (λ c κs. search needs) (λ c κs. search needs) less-margin-requires less-margin-requires-2 add-speed-from (λ c κs. search needs) power-requires (λ c. search needs)
+    mul-speed-from-2 speed-from-requires returns)

@@ -5,17 +5,11 @@ use borrow.Author.Needs.{needs}
 use Rattle.speed.proofs.times.Statement.{statement}
 use Rattle.speed.proofs.times.Tie as tie
 
-mul-lo : tie.Need-mul-lo
-mul-lo c = omega (arith, mul-le-mul (c .before .pre .0) (c .before .pre .1))
-
 mul-hi : tie.Need-mul-hi
 mul-hi c = omega (arith, mul-le-mul (c .before .before .pre .0) (c .before .before .pre .2))
 
 add-hi : tie.Need-add-hi
 add-hi c = omega (arith, mul-le-mul (c .before .before .pre .0) (c .before .before .pre .2))
 
-returns : tie.Need-returns
-returns c = search needs
-
 pub times-spec : {M : Type 1} → statement M
-times-spec = tie.close (tie.spec mul-lo mul-hi add-hi returns)
+times-spec = tie.close (tie.spec (λ c. omega (arith, mul-le-mul (c .before .pre .0) (c .before .pre .1))) mul-hi add-hi (λ c. search needs))

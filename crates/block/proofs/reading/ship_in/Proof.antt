@@ -1,48 +1,27 @@
 -- `block::reading::ship_in` meets its contract.
 -- Assumes nothing.
+use mathlib.Core.List.{[], _∷_}
 use Rattle.fields.specs.Runs.{numbers-at}
 use Rattle.block.specs.Layout.{head, entry, entries, fields, widths, numbers-in, ship-from, ship-in}
 use borrow.Author.Needs.{needs}
 use Rattle.block.proofs.reading.ship_in.Statement.{statement}
 use Rattle.block.proofs.reading.ship_in.Tie as tie
 
-particulars-in-requires : tie.Need-particulars-in-requires
-particulars-in-requires c κs = search needs
-
-number-at-requires : tie.Need-number-at-requires
-number-at-requires c κs = search needs
-
-number-at-requires-2 : tie.Need-number-at-requires-2
-number-at-requires-2 c κs = search needs
-
-auxiliary-in-requires : tie.Need-auxiliary-in-requires
-auxiliary-in-requires c κs = search needs
-
-engines-in-requires : tie.Need-engines-in-requires
-engines-in-requires c κs = search needs
-
 returns : tie.Need-returns
 unfolding ship-in ship-from numbers-in numbers-at widths fields head entries entry
 returns c =
-    let c5 = c in
+    let c5 = c .before .before .before in
     let c4 = c5 .before in
-    let c3 = c4 .before in
-    let c2 = c3 .before in
-    let c1 = c2 .before in
     λ i. record {
-      particulars = c1 .particulars-in .ensures i;
-      speed = record { low = c2 .number-at .ensures i; high = c3 .number-at2 .ensures i };
+      particulars = c4 .before .before .before .particulars-in .ensures i;
+      speed = record { low = c4 .before .before .number-at .ensures i; high = c4 .before .number-at2 .ensures i };
       auxiliary = c4 .auxiliary-in .ensures i;
-      engines = c5 .engines-in .ensures i;
+      engines = c5 .engine-at .ensures i ∷ c .before .before .engine-at2 .ensures i ∷ c .before .engine-at3 .ensures i ∷ c .engine-at4 .ensures i ∷ [];
     }
 
 pub ship-in-spec : {M : Type 1} → statement M
 ship-in-spec =
     tie.close
     (tie.spec
-    particulars-in-requires
-    number-at-requires
-    number-at-requires-2
-    auxiliary-in-requires
-    engines-in-requires
-    returns)
+    (λ c κs. search needs) (λ c κs. search needs) (λ c κs. search needs) (λ c κs. search needs) (λ c κs. search needs) (λ c κs. search needs)
+    (λ c κs. search needs) (λ c κs. search needs) returns)

@@ -1,81 +1,31 @@
 -- `block::writing::write_body` meets its contract.
 -- Assumes nothing.
-use Rattle.block.proofs.Codec.{body-written}
+use mathlib.Core.Path.{refl}
+use mathlib.Core.List.{[], _++_}
+use Rattle.fields.specs.Runs.{pack, total}
+use Rattle.fields.proofs.Runs.{then-run, run-written}
+use Rattle.block.specs.Layout.{head, entry, entries, newer, fields, body}
 use borrow.Author.Needs.{needs}
 use Rattle.block.proofs.writing.write_body.Statement.{statement}
 use Rattle.block.proofs.writing.write_body.Tie as tie
 
-sub-write-head : tie.Need-sub-write-head
-sub-write-head c = search needs
-
-part-write-head-start : tie.Need-part-write-head-start
-part-write-head-start c = search needs
-
-part-write-head-end : tie.Need-part-write-head-end
-part-write-head-end c = search needs
-
-write-head-requires : tie.Need-write-head-requires
-write-head-requires c κs = search needs
-
-sub-write-entries : tie.Need-sub-write-entries
-sub-write-entries c = search needs
-
-part-write-entries-start : tie.Need-part-write-entries-start
-part-write-entries-start c = search needs
-
-part-write-entries-end : tie.Need-part-write-entries-end
-part-write-entries-end c = search needs
-
-write-entries-requires : tie.Need-write-entries-requires
-write-entries-requires c κs = search needs
-
-sub-put : tie.Need-sub-put
-sub-put c = search needs
-
-part-put-start : tie.Need-part-put-start
-part-put-start c = search needs
-
-part-put-end : tie.Need-part-put-end
-part-put-end c = search needs
-
-put-requires : tie.Need-put-requires
-put-requires c κs = search needs
-
-same-length : tie.Need-same-length
-same-length c = search needs
-
 returns : tie.Need-returns
+unfolding body fields head entries entry newer total pack
 returns c =
-    let c-put = c .before .before in
-    let c-entries = c-put .before .before .before .before in
+    let c-newer = c .before .before in
+    let c-entries = c-newer .before .before .before .before in
     let c-head = c-entries .before .before .before .before in
     let start = c-head .before .before .before .before in
-    body-written
-    (start .args .s)
-    (start .args .part .now)
-    (c-head .write-head .last .0)
-    (c-entries .write-entries .last .0)
-    (c-put .put .last .0)
-    (start .pre)
-    (c-head .write-head .ensures)
-    (c-entries .write-entries .ensures)
-    (c-put .put .ensures)
+    let s = start .args .s in
+    let d = start .args .part .now in
+    let s1 = then-run [] (head s) d 0 52 refl refl (c-head .write-head .ensures) in
+    let s2 = then-run (head s) (entries (s .engines)) d 52 80 refl s1 (c-entries .write-entries .ensures) in
+    let s3 = then-run (head s ++ entries (s .engines)) (newer s) d 132 376 refl s2 (c-newer .write-newer .ensures) in
+    run-written (fields s) d (start .pre) s3
 
 pub write-body-spec : {M : Type 1} → statement M
 write-body-spec =
     tie.close
     (tie.spec
-    sub-write-head
-    part-write-head-start
-    part-write-head-end
-    write-head-requires
-    sub-write-entries
-    part-write-entries-start
-    part-write-entries-end
-    write-entries-requires
-    sub-put
-    part-put-start
-    part-put-end
-    put-requires
-    same-length
-    returns)
+    (λ c. search needs) (λ c. search needs) (λ c. search needs) (λ c κs. search needs) (λ c. search needs) (λ c. search needs) (λ c. search needs)
+    (λ c κs. search needs) (λ c. search needs) (λ c. search needs) (λ c. search needs) (λ c κs. search needs) (λ c. search needs) returns)

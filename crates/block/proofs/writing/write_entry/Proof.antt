@@ -4,37 +4,18 @@ use mathlib.Core.Path.{refl}
 use native.Mathlib.Omega.{arith}
 use Rattle.fields.specs.Runs.{total}
 use Rattle.block.specs.Layout.{entry}
-use Rattle.block.proofs.Codec.{run-written}
 use borrow.Author.Needs.{needs}
 use Rattle.block.proofs.writing.write_entry.Statement.{statement}
 use Rattle.block.proofs.writing.write_entry.Tie as tie
-
-slice-aggregate-put-run : tie.Need-slice-aggregate-put-run
-slice-aggregate-put-run c = search needs
-
-slice-aggregate-put-run-2 : tie.Need-slice-aggregate-put-run-2
-slice-aggregate-put-run-2 c = search needs
 
 put-run-requires : tie.Need-put-run-requires
 unfolding total
 put-run-requires c κs = (refl, omega arith)
 
-same-length : tie.Need-same-length
-same-length c = search needs
-
 returns : tie.Need-returns
-unfolding entry total
-returns c =
-    let c-run = c .before .before in
-    let start = c-run .before .before .before .before .before in
-    run-written (entry (start .args .e)) (start .args .part .now) _ (start .pre) (c-run .put-run .ensures)
+unfolding entry
+returns c = c .before .before .put-run .ensures
 
 pub write-entry-spec : {M : Type 1} → statement M
 write-entry-spec =
-    tie.close
-    (tie.spec
-    slice-aggregate-put-run
-    slice-aggregate-put-run-2
-    put-run-requires
-    same-length
-    returns)
+    tie.close (tie.spec (λ c. search needs) (λ c. search needs) put-run-requires (λ c. search needs) returns)

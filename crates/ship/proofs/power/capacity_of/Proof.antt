@@ -3,20 +3,18 @@
 use borrow.Author.Tests.{eq-eqb, ne-eqb}
 use native.Mathlib.Omega.{arith}
 use borrow.Author.Needs.{needs}
+use Rattle.exact.specs.Index.{Capacity}
+use Rattle.ship.proofs.Numbered.{is-container}
 use Rattle.ship.proofs.power.capacity_of.Statement.{statement}
 use Rattle.ship.proofs.power.capacity_of.Tie as tie
 
-mul-result : tie.Need-mul-result
-mul-result c = search needs
-
-mul-result-2 : tie.Need-mul-result-2
-mul-result-2 c = search needs
-
 returns : tie.Need-returns
-returns c = (rw (eq-eqb _ _ (c .if1 .taken)), omega arith)
+unfolding Capacity
+returns c = (rw (is-container _ (c .before .pre .0), eq-eqb _ 4 (c .if1 .taken)), omega arith)
 
 returns-2 : tie.Need-returns-2
-returns-2 c = (rw (ne-eqb _ _ (c .if1 .left)), omega arith)
+unfolding Capacity
+returns-2 c = (rw (is-container _ (c .before .pre .0), ne-eqb _ 4 (c .if1 .left)), omega arith)
 
 pub capacity-of-spec : {M : Type 1} → statement M
-capacity-of-spec = tie.close (tie.spec mul-result mul-result-2 returns returns-2)
+capacity-of-spec = tie.close (tie.spec (λ c. search needs) (λ c. search needs) returns returns-2)

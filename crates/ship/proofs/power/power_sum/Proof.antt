@@ -23,28 +23,13 @@ abbrev μ-loop : tie.MeasureT-loop
 loop-holds : tie.Need-loop-holds Inv-loop μ-loop
 loop-holds c = (omega arith, omega arith, omega arith, sym (sum-none (c .args .t1)))
 
-mul-e : tie.Need-mul-e Inv-loop μ-loop
-mul-e c = search needs
-
-array-copy-out-e : tie.Need-array-copy-out-e Inv-loop μ-loop
-array-copy-out-e c = search needs
-
-power-requires : tie.Need-power-requires Inv-loop μ-loop
-power-requires c κs =
+engine-power-requires : tie.Need-engine-power-requires Inv-loop μ-loop
+engine-power-requires c κs =
     let start = c .before .before .before in
     let i = c .before .before .loop .i in
     let e = getD (start .args .t1) i no-engine in
     let z = engine-inside e (start .pre .1 i (omega arith)) in
     (z .low .most, omega (arith, limit-most e z))
-
-add-sum : tie.Need-add-sum Inv-loop μ-loop
-add-sum c = search needs
-
-add-i : tie.Need-add-i Inv-loop μ-loop
-add-i c = search needs
-
-loop-less : tie.Need-loop-less Inv-loop μ-loop
-loop-less c = search needs
 
 loop-again : tie.Need-loop-again Inv-loop μ-loop
 loop-again c =
@@ -54,7 +39,7 @@ loop-again c =
       search needs,
       search needs,
       search needs,
-      omega (arith, sum-step (start .args .t1) (at-loop .loop .i) (omega arith), c .power .ensures .0),
+      omega (arith, sum-step (start .args .t1) (at-loop .loop .i) (omega arith), c .engine-power .ensures .0),
     )
 
 returns : tie.Need-returns Inv-loop μ-loop
@@ -67,14 +52,5 @@ pub power-sum-spec : {M : Type 1} → statement M
 power-sum-spec =
     tie.close
     (tie.spec
-    Inv-loop
-    μ-loop
-    loop-holds
-    mul-e
-    array-copy-out-e
-    power-requires
-    add-sum
-    add-i
-    loop-less
-    loop-again
-    returns)
+    Inv-loop μ-loop loop-holds (λ c. search needs) (λ c. search needs) engine-power-requires (λ c. search needs) (λ c. search needs) (λ c. search needs)
+    loop-again returns)

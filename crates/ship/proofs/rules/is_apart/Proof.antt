@@ -5,11 +5,8 @@ use borrow.Author.Needs.{needs}
 use Rattle.ship.proofs.rules.is_apart.Statement.{statement}
 use Rattle.ship.proofs.rules.is_apart.Tie as tie
 
-add-result : tie.Need-add-result
-add-result c = search needs
-
 returns : tie.Need-returns
 returns c = apart-divided (c .args .whole) (c .args .hundredths)
 
 pub is-apart-spec : {M : Type 1} → statement M
-is-apart-spec = tie.close (tie.spec add-result returns)
+is-apart-spec = tie.close (tie.spec (λ c. search needs) returns)
