@@ -161,8 +161,10 @@ module _ (top : Bool) {r : Figures Range} (a : Accepted-figures r) where
   unfolding lower-of upper-of ship-at
   encloses =
       record {
-        low = index-side below _ (at-most (under (lower-of ship) (n .lo) (v .hi) (c .hi) (millionths-up (c .hi)) (lower-floor sized-lower .at-most) (ceil-is (c .hi * 1000000) (2 ^ 30) (lit< tt) .at-least)));
-        high = index-side above _ (at-least (over (upper-of ship) (n .hi) (v .lo) (c .lo) (millionths-down (c .lo)) (upper-ceil sized-upper .at-least) (floor-is (c .lo * 1000000) (2 ^ 30) (lit< tt) .at-most)));
+        low = index-side below _ (at-most
+            (under (lower-of ship) (n .lo) (v .hi) (c .hi) (millionths-up (c .hi)) (lower-floor sized-lower .at-most) (ceil-is (c .hi * 1000000) (2 ^ 30) (lit< tt) .at-least)));
+        high = index-side above _ (at-least
+            (over (upper-of ship) (n .hi) (v .lo) (c .lo) (millionths-down (c .lo)) (upper-ceil sized-upper .at-least) (floor-is (c .lo * 1000000) (2 ^ 30) (lit< tt) .at-most)));
       }
 
   pub near : upper-of (at-end top r) * 100000 ≤ lower-of (at-end top r) * 100000 + upper-of (at-end top r) + 200000
@@ -231,26 +233,31 @@ module _ (top : Bool) {r : Figures Range} (a : Accepted-figures r) where
 -- ── Demand 3 ────────────────────────────────────────────────────────────────────────────────
 
 -- A declared speed by name grows with the speed.
-declared-order : (kind : Kind) (dwt : Deadweight) {v w : ℕ} (P P' : ℕ) → v ≤ w → (speed-by (declared v) kind dwt P .lo ≤ speed-by (declared w) kind dwt P' .lo) × (speed-by (declared v) kind dwt P .hi ≤ speed-by (declared w) kind dwt P' .hi)
+declared-order : (kind : Kind) (dwt : Deadweight) {v w : ℕ} (P P' : ℕ) → v ≤ w
+    → (speed-by (declared v) kind dwt P .lo ≤ speed-by (declared w) kind dwt P' .lo) × (speed-by (declared v) kind dwt P .hi ≤ speed-by (declared w) kind dwt P' .hi)
 declared-order kind dwt {v} {w} P P' h =
     rw (declared-exact v kind dwt P, declared-exact w kind dwt P') (mul-le-mul-right 10000 h, mul-le-mul-right 10000 h)
 
 -- A ship inside the ranges has its own bounds inside the record's.
 pub inside-lower : {r : Figures Range} {f : Figures ℕ} → Inside r f → Settled (r .method) (r .engines)
-    → Sized (emitted (most-favourable r) .lo) (load-of (r .ship)) (speed-of (most-favourable r) .hi) (factor-of (most-favourable r) .hi) → Sized (emitted f .lo) (load-of (f .ship)) (speed-of f .hi) (factor-of f .hi)
+    → Sized (emitted (most-favourable r) .lo) (load-of (r .ship)) (speed-of (most-favourable r) .hi) (factor-of (most-favourable r) .hi)
+    → Sized (emitted f .lo) (load-of (f .ship)) (speed-of f .hi) (factor-of f .hi)
     → lower-of (most-favourable r) ≤ lower-of f
 unfolding ship-at speed-of factor-of emitted lower-of
 inside-lower (alike {s = p} e c v) s z z' =
     lower-order z z' (N-inside (alike e c v) .0)
-    (method-end low high low-single high-single (λ m P. speed-by m (p .kind) (p .deadweight) P) (λ x y. y .hi ≤ x .hi) (λ x. le-refl _) (λ r n P P' h. declared-order (p .kind) (p .deadweight) P' P (h .1) .1) v s e)
+    (method-end low high low-single high-single (λ m P. speed-by m (p .kind) (p .deadweight) P) (λ x y. y .hi ≤ x .hi) (λ x. le-refl _)
+    (λ r n P P' h. declared-order (p .kind) (p .deadweight) P' P (h .1) .1) v s e)
 
 pub inside-upper : {r : Figures Range} {f : Figures ℕ} → Inside r f → Settled (r .method) (r .engines)
-    → Sized (emitted f .hi) (load-of (f .ship)) (speed-of f .lo) (factor-of f .lo) → Sized (emitted (least-favourable r) .hi) (load-of (r .ship)) (speed-of (least-favourable r) .lo) (factor-of (least-favourable r) .lo)
+    → Sized (emitted f .hi) (load-of (f .ship)) (speed-of f .lo) (factor-of f .lo)
+    → Sized (emitted (least-favourable r) .hi) (load-of (r .ship)) (speed-of (least-favourable r) .lo) (factor-of (least-favourable r) .lo)
     → upper-of f ≤ upper-of (least-favourable r)
 unfolding ship-at speed-of factor-of emitted upper-of
 inside-upper (alike {s = p} e c v) s z z' =
     upper-order z z' (N-inside (alike e c v) .1)
-    (method-end high low high-single low-single (λ m P. speed-by m (p .kind) (p .deadweight) P) (λ x y. x .lo ≤ y .lo) (λ x. le-refl _) (λ r n P P' h. declared-order (p .kind) (p .deadweight) P P' (h .0) .0) v s e)
+    (method-end high low high-single low-single (λ m P. speed-by m (p .kind) (p .deadweight) P) (λ x y. x .lo ≤ y .lo) (λ x. le-refl _)
+    (λ r n P P' h. declared-order (p .kind) (p .deadweight) P P' (h .0) .0) v s e)
 
 -- Narrowing moves neither bound outward.
 pub narrowed-lower : {r r' : Figures Range} → Accepted-figures r → Accepted-figures r' → Narrowed r r' → lower-of (most-favourable r) ≤ lower-of (most-favourable r')

@@ -14,11 +14,11 @@ use Rattle.exact.specs.Index.{C-F, sum-P-ME, rated, Capacity}
 use Rattle.exact.specs.Ranges.{Range, Uses, same-fuel, no-source, Engines, no-more, one-more, alike, Inside, most-favourable, least-favourable, uses-at, engines-at}
 use Rattle.exact.specs.Ranges.{ship-at, low, high}
 use Rattle.exact.proofs.Favour.{P-ME-mono, rated-mono, turn-uses, turn-engines, uses-end, engines-end}
-use Rattle.exact.proofs.Rules.{by-rule-min, Capacity-between}
+use Rattle.exact.proofs.Rules.{by-rule-min, Capacity-between, f-m-between}
 use Rattle.ship.specs.Accepted as figures-accepted
 use Rattle.ship.specs.Accepted.{Within, Ends, Measured, Rated, Each, Supplied, Accepted-figures}
 use Rattle.ship.proofs.Figured.{power-within}
-use Rattle.plant.specs.Plant.{end, at-end, grams, main-grams, auxiliary-power, main-N, auxiliary-N, N, ice-factor, load-of}
+use Rattle.plant.specs.Plant.{end, at-end, grams, main-grams, auxiliary-power, main-N, auxiliary-N, N, load-of}
 
 -- ── The two ends ────────────────────────────────────────────────────────────────────────────
 
@@ -104,7 +104,11 @@ bounded top (figures-accepted.one-more {x = e} h hs) =
     let p = power-within (end top (e .mcr)) (e .mcr .low) (e .limit) (m .least) (m .most) (h .limit) in
     let g = product-within p (grams-within top 190 (record { least = lit≤ tt; most = lit≤ tt }) (e .uses) (h .uses)) in
     let r = bounded top hs in
-    record { power = omega (arith, p .most, r .power); rated = omega (arith, m .most, r .rated); grams = record { least = omega (arith, g .least, r .grams .least); most = omega (arith, g .most, r .grams .most) } }
+    record {
+      power = omega (arith, p .most, r .power);
+      rated = omega (arith, m .most, r .rated);
+      grams = record { least = omega (arith, g .least, r .grams .least); most = omega (arith, g .most, r .grams .most) };
+    }
 
 pub auxiliary-most : (a : Auxiliary) {mcr : ℕ} → Supplied a → mcr ≤ 480000 → auxiliary-power a mcr ≤ 50000000
 unfolding auxiliary-power
@@ -122,12 +126,9 @@ N-within top {f} a =
     record { least = omega (arith, b .grams .least, k .least); most = omega (arith, b .grams .most, k .most, m) }
 
 pub load-within : (s : Particulars) → Within 100 600000 (s .deadweight .tonnes) → Within 700000 6300000000 (load-of s)
-unfolding load-of ice-factor
+unfolding load-of
 load-within s w =
     let c = Capacity-between (s .kind) (s .deadweight) in
+    let f = f-m-between s in
     let k : Within 7000 60000000 (Capacity (s .kind) (s .deadweight)) = record { least = omega (arith, w .least, c .0); most = omega (arith, w .most, c .1) } in
-    product-within k (ice-within (s .ice))
-  where
-    ice-within : (ice : Bool) → Within 100 105 (ice-factor ice)
-    ice-within true = omega arith
-    ice-within false = omega arith
+    product-within k (record { least = f .0; most = f .1 })

@@ -1,14 +1,13 @@
 -- The whole numbers are the values of the index's formulas.
 -- Assumes nothing.
 use Prim.Native.Nat.{ℕ, _*_}
-use mathlib.Core.Bool.{Bool, true, false}
 use mathlib.Core.List.{List, [], _∷_}
 use native.Mathlib.Omega.{arith}
 use Rattle.formula.specs.Formula.{_//_, Formula, Enclosed}
 use Rattle.exact.specs.Ship.{Consumption, recorded, neither, Engine, Auxiliary, rule, table, Particulars, Figures}
-use Rattle.exact.specs.Index.{emission, main-emission, P-AE, f-m, emissions, load}
+use Rattle.exact.specs.Index.{emission, main-emission, P-AE, emissions, load}
 use Rattle.formula.proofs.Formulas.{enclosed-≈, enclosed-lit, enclosed-sum, enclosed-product}
-use Rattle.plant.specs.Plant.{grams, main-grams, auxiliary-power, main-N, auxiliary-N, N, ice-factor, load-of}
+use Rattle.plant.specs.Plant.{grams, main-grams, auxiliary-power, main-N, auxiliary-N, N, load-of}
 
 -- n k-ths is the value of a formula.
 abbrev pub Exactly : Formula → ℕ → ℕ → Type 0
@@ -36,11 +35,6 @@ emissions-exact f =
     (enclosed-sum (main-exact (f .engines)) (enclosed-product (auxiliary-exact (f .ship .auxiliary) _) (grams-exact 215 (f .auxiliary-uses))))
     (omega arith)
 
-ice-exact : (ice : Bool) → Exactly (f-m ice) (ice-factor ice) 100
-unfolding f-m ice-factor
-ice-exact true = enclosed-lit _
-ice-exact false = enclosed-≈ (enclosed-lit _) (omega arith)
-
 pub load-exact : (s : Particulars) → Exactly (load s) (load-of s) 10000
 unfolding load load-of
-load-exact s = enclosed-≈ (enclosed-product (enclosed-lit _) (ice-exact (s .ice))) (omega arith)
+load-exact s = enclosed-≈ (enclosed-product (enclosed-lit _) (enclosed-lit _)) (omega arith)

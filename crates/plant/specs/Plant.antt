@@ -6,7 +6,7 @@ use mathlib.Core.List.{List, [], _∷_}
 use Rattle.exact.specs.Ship.{Consumption, recorded, neither, Engine, Auxiliary, rule, table, Particulars, Figures}
 use Rattle.exact.specs.Ranges.{Range, low, high, ship-at}
 use Rattle.formula.specs.Words.{if}
-use Rattle.exact.specs.Index.{C-F, P-ME, sum-P-ME, rated, by-rule, Capacity}
+use Rattle.exact.specs.Index.{C-F, P-ME, sum-P-ME, rated, by-rule, Capacity, f-m}
 use Rattle.ship.specs.declared.Engine as entry
 use Rattle.ship.specs.declared.Range as record-range
 use Rattle.ship.specs.Figures.{Fuelled, engine-of}
@@ -52,13 +52,9 @@ auxiliary-N f = auxiliary-power (f .ship .auxiliary) (rated (f .engines)) * gram
 abbrev pub N : Figures ℕ → ℕ
 N f = main-N f + auxiliary-N f
 
--- f_m in hundredths.
-unfoldable pub ice-factor : Bool → ℕ
-ice-factor ice = if ice 105 100
-
 -- Capacity with f_m, in 10^-4 t.
 unfoldable pub load-of : Particulars → ℕ
-load-of s = Capacity (s .kind) (s .deadweight) * ice-factor (s .ice)
+load-of s = Capacity (s .kind) (s .deadweight) * f-m (s .ice)
 
 -- ── Of a record ─────────────────────────────────────────────────────────────────────────────
 

@@ -5,16 +5,15 @@ use ship::Range;
 use ship::Ship;
 ghost use mathlib.Core.Path.{_≡_};
 ghost use Prim.Native.Nat.{ℕ, _≤_, _<_};
-ghost use lib.Dec.{eqb};
 ghost use lib.ListN.{getD};
-ghost use Rattle.exact.specs.Index.{C-F};
+ghost use Rattle.exact.specs.Index.{C-F, f-m};
 ghost use Rattle.exact.specs.Ranges.{low, high, uses-at, engines-at};
 ghost use Rattle.ship.specs.Record.{no-engine};
-ghost use Rattle.ship.specs.Figures.{range-of, fuel-of, uses-of, Fuelled, entry-at, mains, auxiliary-of, figures};
+ghost use Rattle.ship.specs.Figures.{range-of, ice-of, fuel-of, uses-of, Fuelled, entry-at, mains, auxiliary-of, figures};
 ghost use Rattle.ship.specs.Accepted.{Within, Measured, Supplied};
 ghost use Rattle.ship.specs.Rules.{refusal-of};
 ghost use Rattle.ship.specs.declared.Refusal.the-variants as refusal;
-ghost use Rattle.plant.specs.Plant.{end, Entered, Roomy, grams, auxiliary-power, ice-factor, load-of, sums-of, with-engine, ends-of, P-ME-of, emitted-of};
+ghost use Rattle.plant.specs.Plant.{end, Entered, Roomy, grams, auxiliary-power, load-of, sums-of, with-engine, ends-of, P-ME-of, emitted-of};
 
 // Over the main engines: P_ME in 1/100 kW, MCR in kW, P_ME × C_F × SFC in 10^-6 g/h.
 struct Sums {
@@ -165,7 +164,7 @@ pub fn emissions(s: Ship) -> Emitted
 
 // f_m by the ice class, in 1/100.
 fn ice_factor(ice: u64) -> u64
-    ensures { λ r. ⌜ (r ≡ ice-factor (eqb ice 1)) × Within 100 105 r ⌝ }
+    ensures { λ r. ⌜ (r ≡ f-m (ice-of ice)) × Within 100 105 r ⌝ }
 {
     if ice == 1 { 105 } else { 100 }
 }

@@ -202,7 +202,8 @@ accepted-end top s e =
       h .ice,
       speed (not top) (p .method) (p .kind) (s .speed) (h .speed),
       either (either (single (p .method) (not top) (s .speed)) (not-crossed top (s .auxiliary .sfc)))
-          (used top es (engine-crossed (p .method)) (engine-crossed (p .method)) (engine-crossed (p .method)) (λ x a b. either (single (p .method) top (x .mcr)) (not-crossed top (x .uses .sfc))) (p .used) r r),
+          (used top es (engine-crossed (p .method)) (engine-crossed (p .method)) (engine-crossed (p .method))
+          (λ x a b. either (single (p .method) top (x .mcr)) (not-crossed top (x .uses .sfc))) (p .used) r r),
       trial top p es (inside 1 4 (p .used) (n .0) .most) r (q .trial),
       others top es occupied occupied occupied (λ x a b. unused top x a) (p .used) (q .unused) (q .unused),
     )

@@ -187,5 +187,6 @@ figures-accepted s four e =
           (λ k. record { least = r .speed .least k; rising = r .ends .rising; most = r .speed .most .1 })
           (r .trial .tried)
           (λ k. (r .trial .loaded k, draught (p .kind) (r .kind) (r .speed .draught k)));
-      settled = settled (range-of (s .speed)) (p .trial) (mains (p .used) es) (p .method) (r .speed .method) (r .ends .single) (λ k. single (each-main (λ e. e .mcr .low ≡ e .mcr .high) (p .used) es room (λ i h. one-mcr (getD es i no-engine) (r .entries i h .mcr .single k))));
+      settled = settled (range-of (s .speed)) (p .trial) (mains (p .used) es) (p .method) (r .speed .method) (r .ends .single)
+          (λ k. single (each-main (λ e. e .mcr .low ≡ e .mcr .high) (p .used) es room (λ i h. one-mcr (getD es i no-engine) (r .entries i h .mcr .single k))));
     }

@@ -12,7 +12,7 @@ use Rattle.exact.specs.Index.{Capacity, sum-P-ME}
 use Rattle.exact.specs.Ranges.{engines-at, low}
 use Rattle.ship.specs.Record.{no-engine}
 use Rattle.ship.specs.Refusals.{number-of, first-of}
-use Rattle.ship.specs.Figures.{kinds, kind-of, Listed, Fuelled, deadweight-of, mains}
+use Rattle.ship.specs.Figures.{kinds, kind-of, Listed, last-ice, Fuelled, deadweight-of, mains}
 use Rattle.ship.specs.Rules.{outside, between, nonzero, any-used, imo-refused, type-refused, deadweight-refused, gross-refused, volume-refused, engines-refused}
 use Rattle.ship.specs.Rules.{uses-refused, consumption-refused, auxiliary-refused, ice-refused, speed-refused, crossed, range-refused, engine-crossed}
 use Rattle.ship.specs.Rules.{ranges-refused, apart, trial-refused, occupied, unused-refused, hull-tests, plant-tests, trial-tests, early-tests, tests, refusal-of}
@@ -290,10 +290,11 @@ pub record Accepted-numbers (s : Ship) : Type 0 where
   pub auxiliary-uses : Metered (s .auxiliary)
   pub auxiliary : Within 1 2 (s .particulars .supply)
   pub table : Of-type 2 1 50000 (s .particulars .supply) (s .particulars .table)
-  pub ice : s .particulars .ice ≤ 1
+  pub ice : s .particulars .ice ≤ last-ice
   pub speed : Speeded (s .particulars .method) (s .particulars .kind) (s .speed)
   pub ends : Settles (s .particulars .method) (s .speed)
-  pub trial : Trialled (s .particulars .method) (s .particulars .trial .power) (s .particulars .trial .deadweight .tonnes) (sum-P-ME (engines-at low (mains (s .particulars .used) (s .engines)))) (Capacity (kind-of (s .particulars .kind)) (deadweight-of (s .particulars .deadweight)))
+  pub trial : Trialled (s .particulars .method) (s .particulars .trial .power) (s .particulars .trial .deadweight .tonnes)
+      (sum-P-ME (engines-at low (mains (s .particulars .used) (s .engines)))) (Capacity (kind-of (s .particulars .kind)) (deadweight-of (s .particulars .deadweight)))
   pub others : (i : ℕ) → i < 4 → s .particulars .used ≤ i → getD (s .engines) i no-engine ≡ no-engine
 
 -- Rule 11 in the shape of rules 7 and 8.
@@ -336,7 +337,7 @@ numbers-accepted s e =
       auxiliary-uses = metered (s .auxiliary) (u .0) (c .1);
       auxiliary = a .0;
       table = a .1;
-      ice = ltb-false 1 (p .ice) (h .ice);
+      ice = ltb-false last-ice (p .ice) (h .ice);
       speed = v;
       ends = settles (p .method) (s .speed) (v .method .most) (c .0);
       trial = trialled p es (v .method) (q .trial);

@@ -2,6 +2,7 @@
 -- Assumes nothing.
 use Prim.Native.Nat.{ℕ, _-_}
 use mathlib.Core.Path.{_≡_}
+use mathlib.Core.Bool.{Bool}
 use mathlib.Core.List.{List, [], _∷_, map}
 use lib.ListN.{getD, length, take}
 use lib.Dec.{eqb}
@@ -32,6 +33,13 @@ fuel-of n =
     (exact.diesel ∷ exact.light ∷ exact.heavy ∷ exact.propane ∷ exact.butane ∷ exact.lng ∷ exact.methanol ∷ exact.ethanol ∷ [])
     (n - 1)
     exact.diesel
+
+-- Ice classes by number, up to the last.
+abbrev pub last-ice : ℕ
+last-ice = 1
+
+abbrev pub ice-of : ℕ → Bool
+ice-of n = eqb n 1
 
 abbrev pub range-of : Range → ranges.Range
 range-of r = record { low = r .low; high = r .high }
@@ -79,7 +87,7 @@ figures s =
         gross = record { gt = p .gross .gt };
         cargo = p .cargo;
         auxiliary = auxiliary-of (p .supply) (p .table);
-        ice = eqb (p .ice) 1;
+        ice = ice-of (p .ice);
       };
       engines = mains (p .used) (s .engines);
       auxiliary-uses = uses-of (s .auxiliary);

@@ -9,7 +9,7 @@ use Rattle.exact.specs.Index.{Capacity, sum-P-ME}
 use Rattle.exact.specs.Ranges.{engines-at, low}
 use Rattle.ship.specs.Record.{no-engine}
 use Rattle.ship.specs.Refusals.{first-of}
-use Rattle.ship.specs.Figures.{kinds, kind-of, deadweight-of, mains}
+use Rattle.ship.specs.Figures.{kinds, kind-of, last-ice, deadweight-of, mains}
 use Rattle.ship.specs.declared.Deadweight.{Deadweight}
 use Rattle.ship.specs.declared.GrossTonnage.{GrossTonnage}
 use Rattle.ship.specs.declared.Range.{Range}
@@ -99,9 +99,9 @@ abbrev pub auxiliary-refused : ℕ → ℕ → Bool
 auxiliary-refused method power =
     outside 1 2 method || eqb method 1 && nonzero power || eqb method 2 && outside 1 50000 power
 
--- 12: ice byte not 0 or 1.
+-- 12: no ice class of that number.
 abbrev pub ice-refused : ℕ → Bool
-ice-refused ice = ltb 1 ice
+ice-refused ice = ltb last-ice ice
 
 -- 13: method not 1–4; method 3 with another type; methods 1–3 with a speed end not 500–6,000; method 4 with one not 0.
 abbrev pub speed-refused : ℕ → ℕ → Range → Bool

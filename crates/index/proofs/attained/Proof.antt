@@ -10,13 +10,17 @@ use Rattle.index.proofs.attained.Statement.{statement}
 use Rattle.index.proofs.attained.Tie as tie
 
 -- What the two roundings ask.
-lower-asked : (c : tie.After-emissions) → Sized (c .emissions .result .main .low + c .emissions .result .auxiliary .low) (c .before .load .result) (c .before .before .before .before .before .args .v .most .hi) (c .before .before .before .before .factor .result .hi)
+lower-asked : (c : tie.After-emissions)
+    → Sized (c .emissions .result .main .low + c .emissions .result .auxiliary .low) (c .before .load .result)
+    (c .before .before .before .before .before .args .v .most .hi) (c .before .before .before .before .factor .result .hi)
 lower-asked c =
     let f = c .before .before .before .before in
     let s = f .before in
     lower-sized (s .args .s) (four (s .args .s) _ (s .good .0)) (s .pre .0) (s .pre .1) (f .factor .ensures) (c .before .load .ensures) (c .emissions .ensures)
 
-upper-asked : (c : tie.After-emissions) → Sized (c .emissions .result .main .high + c .emissions .result .auxiliary .high) (c .before .load .result) (c .before .before .before .before .before .args .v .least .lo) (c .before .before .before .before .factor .result .lo)
+upper-asked : (c : tie.After-emissions)
+    → Sized (c .emissions .result .main .high + c .emissions .result .auxiliary .high) (c .before .load .result)
+    (c .before .before .before .before .before .args .v .least .lo) (c .before .before .before .before .factor .result .lo)
 upper-asked c =
     let f = c .before .before .before .before in
     let s = f .before in

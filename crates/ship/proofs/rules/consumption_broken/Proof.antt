@@ -5,7 +5,9 @@ use Rattle.ship.proofs.rules.consumption_broken.Statement.{statement}
 use Rattle.ship.proofs.rules.consumption_broken.Tie as tie
 
 returns : tie.Need-returns
-returns c = rw (c .uses-broken .ensures, c .before .engine-uses-broken4 .ensures, c .before .before .engine-uses-broken3 .ensures, c .before .before .before .engine-uses-broken2 .ensures, c .before .before .before .before .engine-uses-broken .ensures)
+returns c =
+    let second = c .before .before .before in
+    rw (c .uses-broken .ensures, c .before .engine-uses-broken4 .ensures, c .before .before .engine-uses-broken3 .ensures, second .engine-uses-broken2 .ensures, second .before .engine-uses-broken .ensures)
 
 pub consumption-broken-spec : {M : Type 1} → statement M
 consumption-broken-spec =

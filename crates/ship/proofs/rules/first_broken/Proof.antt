@@ -17,7 +17,8 @@ returns : tie.Need-returns
 unfolding hull-tests plant-tests
 returns c =
     let c-hull = c .before .before in
-    stopped (early-tests (c-hull .before .before .args .s)) (trial-tests (c-hull .before .before .args .zeros) (c-hull .before .before .args .s)) refl _ (early c-hull) (λ z. c .if1 .taken (c .before .number .ensures ∙ z))
+    let a = c-hull .before .before .args in
+    stopped (early-tests (a .s)) (trial-tests (a .zeros) (a .s)) refl _ (early c-hull) (λ z. c .if1 .taken (c .before .number .ensures ∙ z))
 
 trial-refusal-requires : tie.Need-trial-refusal-requires
 trial-refusal-requires c κs =
@@ -29,7 +30,8 @@ unfolding hull-tests plant-tests
 returns-2 c =
     let c-number = c .before .before in
     let c-hull = c-number .before in
-    c .trial-refusal .ensures ∙ went-on (early-tests (c-hull .before .before .args .s)) (trial-tests (c-hull .before .before .args .zeros) (c-hull .before .before .args .s)) refl (sym (early c-hull) ∙ none _ (sym (c-number .number .ensures) ∙ c .before .if1 .left))
+    let a = c-hull .before .before .args in
+    c .trial-refusal .ensures ∙ went-on (early-tests (a .s)) (trial-tests (a .zeros) (a .s)) refl (sym (early c-hull) ∙ none _ (sym (c-number .number .ensures) ∙ c .before .if1 .left))
 
 pub first-broken-spec : {M : Type 1} → statement M
 first-broken-spec = tie.close (tie.spec (λ c κs. search needs) (λ c κs. search needs) (λ c κs. search needs) returns trial-refusal-requires returns-2)
