@@ -21,7 +21,7 @@ use Rattle.ship.specs.declared.Engine.{Engine}
 use Rattle.ship.specs.declared.Trial.{Trial}
 use Rattle.ship.specs.declared.Ship.{Ship}
 use Rattle.ship.specs.declared.Refusal.the-variants as refusal
-use Rattle.ship.proofs.Sums.{power-limited, power-free}
+use Rattle.exact.proofs.Rules.{P-ME-unlimited, P-ME-limited}
 use Rattle.ship.proofs.Tests.{not-with, inside}
 use Rattle.ship.proofs.Numbered.{by-number}
 use Rattle.ship.proofs.Right.{Metered, Entry, Of-type, numbers-accepted}
@@ -100,9 +100,9 @@ single (one-more h hs) = (h, single hs)
 -- ── The sum of P_ME, at either end ──────────────────────────────────────────────────────────
 
 pub power-within : (mcr floor limit : ℕ) → 100 ≤ mcr → mcr ≤ 120000 → Limited floor limit → Within 7500 9000000 (P-ME mcr limit)
-power-within mcr floor _ h k no-limiter = rw (power-free mcr) (record { least = omega arith; most = omega arith })
+power-within mcr floor _ h k no-limiter = rw (P-ME-unlimited mcr) (record { least = omega arith; most = omega arith })
 power-within mcr floor limit h k (limiter w) =
-    rw (power-limited mcr limit (omega (arith, w .least))) (record { least = omega (arith, w .least); most = omega arith })
+    rw (P-ME-limited mcr limit (omega (arith, w .least))) (record { least = omega (arith, w .least); most = omega arith })
 
 -- An end of a range within 100–120,000.
 abbrev End : (Range → ℕ) → Type 0

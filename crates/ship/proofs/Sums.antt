@@ -1,6 +1,6 @@
--- P_ME, and its sum over the engines that are used.
+-- Sums over the engines that are used.
 -- Assumes nothing.
-use Prim.Native.Nat.{ℕ, zero, suc, _+_, _*_, min, _<_}
+use Prim.Native.Nat.{ℕ, zero, suc, _+_, _<_}
 use mathlib.Core.Path.{_≡_, refl}
 use mathlib.Core.List.{List, [], _∷_}
 use native.Mathlib.Numerals.{add-one}
@@ -12,15 +12,6 @@ use Rattle.exact.specs.Ranges.{Range, engines-at, low}
 use Rattle.ship.specs.Record.{no-engine}
 use Rattle.ship.specs.Figures.{engine-of, entry-at, mains}
 use Rattle.ship.specs.declared.Engine.{Engine}
-
-pub power-limited : (mcr limit : ℕ) → 0 < limit → P-ME mcr limit ≡ min (83 * limit) (75 * mcr)
-unfolding P-ME
-power-limited mcr zero h = absurd (omega arith)
-power-limited mcr (suc l) h = refl
-
-pub power-free : (mcr : ℕ) → P-ME mcr 0 ≡ 75 * mcr
-unfolding P-ME
-power-free mcr = refl
 
 -- A sum F of f over a list of engines, over one engine more.
 module _ (F : List (exact.Engine ℕ) → ℕ) (f : exact.Engine ℕ → ℕ) (none : F [] ≡ 0) (more : (e : exact.Engine ℕ) (es : List (exact.Engine ℕ)) → F (e ∷ es) ≡ f e + F es) (p : Range → ℕ) where
