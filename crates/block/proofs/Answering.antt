@@ -8,7 +8,6 @@ use borrow.Author.Tests.{eq-eqb, ne-eqb, lt-ltb, le-ltb}
 use borrow.Rule.Slice.PartMut.{putMid, post-is}
 use lib.ListN.{length, take, drop}
 use Rattle.formula.specs.Words.{if}
-use Rattle.ship.specs.Record.{empty-ship}
 use Rattle.ship.specs.Refusals.{number-of, first-of}
 use Rattle.ship.specs.Rules.{refusal-of}
 use Rattle.ship.specs.declared.Ship.{Ship}
@@ -16,7 +15,7 @@ use Rattle.ship.specs.declared.Refusal.{Refusal}
 use Rattle.ship.specs.declared.Refusal.the-variants.{None, Length, NoBlock}
 use Rattle.ship.proofs.Order.{or-else}
 use Rattle.ship.proofs.Right.{after-own}
-use Rattle.block.specs.Layout.{encode, ship-in}
+use Rattle.layout.specs.Layout.{encode, ship-in, empty-ship}
 use Rattle.block.specs.Answers.{block-tests, read-refusal, loaded, read-of, no-block, write-refusal, write-of}
 
 -- ── Reading ─────────────────────────────────────────────────────────────────────────────────

@@ -15,7 +15,6 @@ use denote.Struct.Declared.{row}
 use Rattle.formula.specs.Words.{if}
 use Rattle.fields.specs.Numbers.{Bytes}
 use Rattle.fields.proofs.Numbers.{bytes-take, bytes-drop}
-use Rattle.ship.specs.Record.{empty-ship}
 use Rattle.ship.specs.Refusals.{number-of, First, first-of}
 use Rattle.ship.specs.Rules.{tests, refusal-of}
 use Rattle.ship.specs.declared.Ship.{Ship}
@@ -25,9 +24,9 @@ use Rattle.ship.proofs.Order.{first-is, first-one, none, or-else, own-none}
 use Rattle.ship.proofs.Right.{after-own}
 use Rattle.ship.proofs.Ship.{the-type}
 use Rattle.ship.proofs.Typed.{four}
-use Rattle.block.specs.Layout.{encode, ship-in}
+use Rattle.layout.specs.Layout.{encode, ship-in, empty-ship}
 use Rattle.block.specs.Answers.{length-refused, block-tests, read-refusal, loaded, read-of, no-block, write-refusal, write-of}
-use Rattle.block.proofs.Codec.{encode-length}
+use Rattle.layout.proofs.Codec.{encode-length}
 use Rattle.block.proofs.Answering.{write-accepted}
 use Rattle.block.proofs.Trips.{read-back, encode-back, record-accepted}
 

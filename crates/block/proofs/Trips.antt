@@ -23,10 +23,10 @@ use Rattle.ship.specs.declared.Refusal.the-variants.{None, Length, Check, Layou
 use Rattle.ship.proofs.Order.{next-test}
 use Rattle.ship.proofs.Tests.{neither, is-zero}
 use Rattle.ship.proofs.Right.{numbers-accepted, own-refusal, all-passed as passed-rows}
-use Rattle.block.specs.Layout.{head, entry, entries, newer, fields, widths, body, encode, numbers-in, ship-from, ship-in}
+use Rattle.layout.specs.Layout.{head, entry, entries, newer, fields, widths, body, encode, numbers-in, ship-from, ship-in}
 use Rattle.block.specs.Answers.{length-refused, check-refused, layout-refused, zeros-refused, block-tests, read-refusal, loaded, read-of}
-use Rattle.block.proofs.Codec.{encode-length, take-body, drop-body}
-use Rattle.block.proofs.Fitting.{fits}
+use Rattle.layout.proofs.Codec.{encode-length, take-body, drop-body}
+use Rattle.layout.proofs.Fitting.{fits}
 
 -- ── A record that is written ────────────────────────────────────────────────────────────────
 

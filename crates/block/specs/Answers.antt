@@ -8,13 +8,12 @@ use lib.Dec.{eqb, ltb}
 use Rattle.formula.specs.Words.{if}
 use Rattle.fields.specs.Numbers.{number-at}
 use Rattle.fields.specs.Checks.{sums}
-use Rattle.ship.specs.Record.{empty-ship}
 use Rattle.ship.specs.Refusals.{number-of, first-of}
 use Rattle.ship.specs.Rules.{nonzero, tests}
 use Rattle.ship.specs.declared.Ship.{Ship}
 use Rattle.ship.specs.declared.Refusal.{Refusal}
 use Rattle.ship.specs.declared.Refusal.the-variants.{None, Length, Check, Layout, NoBlock}
-use Rattle.block.specs.Layout.{encode, numbers-in, ship-in}
+use Rattle.layout.specs.Layout.{encode, numbers-in, ship-in, empty-ship}
 use Rattle.block.specs.declared.Loaded.{Loaded}
 
 -- ── Reading ─────────────────────────────────────────────────────────────────────────────────

@@ -1,11 +1,10 @@
 // The block of 512 bytes: a ship's record, read and written.
 mod reading;
-mod writing;
 
+use layout::empty;
+use rules::refusal;
 use ship::Refusal;
 use ship::Ship;
-use ship::empty;
-use ship::rules::refusal;
 ghost use mathlib.Core.Path.{_≡_};
 ghost use Rattle.block.specs.Answers.{read-of, write-refusal, write-of};
 
@@ -25,7 +24,7 @@ pub fn read(block: &[u8]) -> Loaded
             ship: none,
         };
     }
-    let ship = reading::ship_in(block);
+    let ship = layout::ship_in(block);
     let refusal = reading::block_refusal(block, ship);
     if ship::number(refusal) != 0 {
         let none = empty();
@@ -52,6 +51,6 @@ pub fn write(file: &mut [u8], number: u64, ship: Ship) -> Refusal
     }
     let at = n * 512;
     let end = at + 512;
-    writing::write_block(&mut file[at..end], ship);
+    layout::write_block(&mut file[at..end], ship);
     Refusal::None
 }

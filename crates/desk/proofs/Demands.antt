@@ -34,7 +34,7 @@ use Rattle.ship.proofs.Narrowing as narrowing-of
 use Rattle.ship.proofs.Ship.{the-type}
 use Rattle.ship.proofs.Typed.{four}
 use Rattle.fields.specs.Numbers.{Bytes}
-use Rattle.block.specs.Layout.{encode, ship-from, ship-in}
+use Rattle.layout.specs.Layout.{encode, ship-from, ship-in}
 use Rattle.block.specs.Answers.{length-refused, block-tests, read-refusal, read-of, loaded, write-refusal, write-of}
 use Rattle.block.proofs.Theorems as block
 use Rattle.speed.specs.Speeds.{Speed}

@@ -1,6 +1,5 @@
 -- The figures that are marked P hold.
 -- Assumes nothing.
-use mathlib.Core.Path.{refl}
 use Rattle.exact.specs.Index.{C-F, P-ME, sum-P-ME, rated, by-rule, Capacity, f-m, light-cargo, light-vehicles}
 use Rattle.exact.specs.Ranges.{uses-at, engines-at, method-at, ship-at}
 use Rattle.ship.specs.Refusals.{first-of}
@@ -14,5 +13,8 @@ use Rattle.desk.specs.Answers.{answer-of}
 use Rattle.desk.specs.Figures.{All, marked-P}
 
 pub proved : All marked-P
-unfolding answer-of refusal-of first-of hull-tests plant-tests trial-tests trial-refused figures uses-of engine-of mains auxiliary-of method-of ship-at uses-at engines-at method-at C-F P-ME sum-P-ME rated by-rule Capacity light-cargo light-vehicles grams main-grams auxiliary-power main-N auxiliary-N f-m load-of emitted cargo-factor factor-by speed-by index-down index-up speed-of factor-of lower-of upper-of index-of
-proved = (refl, (refl, (refl, (refl, (refl, (refl, (refl, (refl, (refl, (refl, (refl, (refl, (refl, tt)))))))))))))
+unfolding answer-of refusal-of first-of hull-tests plant-tests trial-tests trial-refused figures uses-of engine-of mains
+    auxiliary-of method-of ship-at uses-at engines-at method-at C-F P-ME sum-P-ME rated by-rule Capacity light-cargo
+    light-vehicles grams main-grams auxiliary-power main-N auxiliary-N f-m load-of emitted cargo-factor factor-by speed-by
+    index-down index-up speed-of factor-of lower-of upper-of index-of
+proved = search tt

@@ -29,7 +29,7 @@ fn answered(own: Refusal, s: Ship) -> Answer
 pub fn bounds(s: Ship) -> Answer
     ensures { λ r. ⌜ r ≡ answer-of s ⌝ }
 {
-    let own = ship::rules::refusal(s);
+    let own = rules::refusal(s);
     answered(own, s)
 }
 

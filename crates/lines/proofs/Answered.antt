@@ -13,7 +13,7 @@ use Rattle.fields.specs.Runs.{numbers-at}
 use Rattle.ship.specs.Refusals.{number-of, first-of}
 use Rattle.ship.specs.declared.Refusal.{Refusal}
 use Rattle.ship.specs.declared.Refusal.the-variants.{None, Length}
-use Rattle.block.specs.Layout.{head, entry, entries, fields, widths, numbers-in, ship-from, ship-in}
+use Rattle.layout.specs.Layout.{head, entry, entries, fields, widths, numbers-in, ship-from, ship-in}
 use Rattle.block.specs.Answers.{read-refusal, read-of}
 use Rattle.index.specs.declared.Index.{Index}
 use Rattle.desk.specs.Answers.{answer-of-block}

@@ -2,7 +2,6 @@
 -- Assumes nothing.
 use Prim.Native.Nat.{ℕ, _-_}
 use mathlib.Core.Path.{_≡_}
-use mathlib.Core.Bool.{Bool}
 use mathlib.Core.List.{List, [], _∷_, map}
 use lib.ListN.{getD, length, take}
 use lib.Dec.{eqb}
@@ -34,12 +33,15 @@ fuel-of n =
     (n - 1)
     exact.diesel
 
--- Ice classes by number, up to the last.
-abbrev pub last-ice : ℕ
-last-ice = 1
+-- Ice classes by number, from 0.
+abbrev pub ice-classes : List exact.IceClass
+ice-classes = exact.no-ice-class ∷ exact.ice-classed ∷ []
 
-abbrev pub ice-of : ℕ → Bool
-ice-of n = eqb n 1
+abbrev pub last-ice : ℕ
+last-ice = length ice-classes - 1
+
+abbrev pub ice-of : ℕ → exact.IceClass
+ice-of n = getD ice-classes n exact.no-ice-class
 
 abbrev pub range-of : Range → ranges.Range
 range-of r = record { low = r .low; high = r .high }

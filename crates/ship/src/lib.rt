@@ -1,9 +1,8 @@
 // A ship's record, by value. Numbers are as its block has them; what they may be is said by the rules.
 pub mod power;
-pub mod rules;
 
 ghost use mathlib.Core.Path.{_≡_};
-ghost use Rattle.ship.specs.Record.{empty-ship};
+ghost use Rattle.formula.specs.Words.{if};
 ghost use Rattle.ship.specs.Refusals.{number-of};
 
 // Deadweight in tonnes and gross tonnage are types of their own, so that neither is accepted for the other.
@@ -112,42 +111,9 @@ pub fn number(refusal: Refusal) -> u8
     }
 }
 
-// The record that stands where there is none.
-pub fn empty() -> Ship
-    ensures { λ r. ⌜ r ≡ empty-ship ⌝ }
+// The refusal where its rule is broken, else what the later rules say.
+pub fn first(broken: bool, refusal: Refusal, rest: Refusal) -> Refusal
+    ensures { λ r. ⌜ r ≡ if broken refusal rest ⌝ }
 {
-    let none = Range { low: 0, high: 0 };
-    let uses = Consumption {
-        sfc: none,
-        fuel: 0,
-        source: 0,
-    };
-    let engine = Engine {
-        mcr: none,
-        limit: 0,
-        uses,
-    };
-    let trial = Trial {
-        power: 0,
-        deadweight: Deadweight { tonnes: 0 },
-    };
-    let particulars = Particulars {
-        imo: 0,
-        kind: 0,
-        deadweight: Deadweight { tonnes: 0 },
-        gross: GrossTonnage { gt: 0 },
-        cargo: 0,
-        method: 0,
-        trial,
-        supply: 0,
-        table: 0,
-        ice: 0,
-        used: 0,
-    };
-    Ship {
-        particulars,
-        speed: none,
-        auxiliary: uses,
-        engines: [engine, engine, engine, engine],
-    }
+    if broken { refusal } else { rest }
 }

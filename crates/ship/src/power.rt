@@ -1,15 +1,9 @@
-// Power of the main engines and Capacity, where rule 15 asks for them.
+// Power of a main engine and Capacity, for rule 15 and for the plant.
 use crate::Deadweight;
-use crate::Engine;
 ghost use mathlib.Core.Path.{_≡_};
-ghost use mathlib.Core.Bool.{false};
-ghost use Prim.Native.Nat.{ℕ, _*_, _≤_, _<_};
-ghost use lib.ListN.{getD};
-ghost use Rattle.exact.specs.Index.{Capacity, P-ME, sum-P-ME};
-ghost use Rattle.exact.specs.Ranges.{engines-at, low};
-ghost use Rattle.ship.specs.Record.{no-engine};
-ghost use Rattle.ship.specs.Figures.{Listed, kind-of, deadweight-of, mains};
-ghost use Rattle.ship.specs.Rules.{engine-refused};
+ghost use Prim.Native.Nat.{_≤_};
+ghost use Rattle.exact.specs.Index.{Capacity, P-ME};
+ghost use Rattle.ship.specs.Figures.{Listed, kind-of, deadweight-of};
 
 // P_ME of one engine, in hundredths of a kW. Rule 9 bounds MCR and limit.
 pub fn engine_power(mcr: u64, limit: u64) -> u64
@@ -22,22 +16,6 @@ pub fn engine_power(mcr: u64, limit: u64) -> u64
     }
     let limited = 83 * limit;
     if limited < full { limited } else { full }
-}
-
-// The sum of P_ME over the engines that are used, each at its low MCR, in hundredths of a kW. Rule 15 asks for it once rule 9 holds.
-pub(crate) fn power_sum(engines: [Engine; 4], used: u64) -> u64
-    requires { ⌜ (used ≤ 4) × ((i : ℕ) → i < used → engine-refused (getD engines i no-engine) ≡ false) ⌝ }
-    ensures { λ r. ⌜ (r ≡ sum-P-ME (engines-at low (mains used engines))) × (r ≤ 36000000) ⌝ }
-{
-    let n = used as usize;
-    let mut sum: u64 = 0;
-    let mut i: usize = 0;
-    while i < n {
-        let e = engines[i];
-        sum += engine_power(e.mcr.low, e.limit);
-        i += 1;
-    }
-    sum
 }
 
 // Capacity in hundredths of a tonne. Rules 5 and 6 bound type and deadweight.

@@ -3,7 +3,7 @@
 use mathlib.Core.Path.{_≡_, sym, ap, _∙_}
 use Rattle.ship.specs.Refusals.{first-of}
 use Rattle.ship.specs.declared.Refusal.the-variants.{None, Length}
-use Rattle.block.specs.Layout.{ship-in}
+use Rattle.layout.specs.Layout.{ship-in}
 use Rattle.block.specs.Answers.{block-tests, loaded}
 use Rattle.block.proofs.Answering.{read-short, read-refused, read-accepted}
 use borrow.Author.Needs.{needs}

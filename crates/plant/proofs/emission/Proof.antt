@@ -12,9 +12,9 @@ use Rattle.plant.proofs.emission.Statement.{statement}
 use Rattle.plant.proofs.emission.Tie as tie
 
 product : (c : tie.After-end-of)
-    → (c .before .conversion .result * c .end-of .result
-    ≡ grams (c .before .before .before .before .before .args .stand-in) (uses-at (end (c .before .before .before .before .before .args .high)) (uses-of (c .before .before .before .before .before .args .uses))))
-    × (c .before .conversion .result * c .end-of .result ≤ 12824000)
+    → (let args = c .before .before .before .before .before .args in
+    let g = c .before .conversion .result * c .end-of .result in
+    (g ≡ grams (args .stand-in) (uses-at (end (args .high)) (uses-of (args .uses)))) × (g ≤ 12824000))
 product c =
     let start = c .before .before .before .before .before in
     rw (c .before .conversion .ensures, c .end-of .ensures)

@@ -1,18 +1,26 @@
 -- `plant::ice_factor` meets its contract.
 -- Assumes nothing.
-use borrow.Author.Tests.{eq-eqb, ne-eqb}
+use Prim.Native.Nat.{ℕ, zero, suc}
+use mathlib.Core.Path.{_≡_, refl}
 use borrow.Author.Needs.{needs}
 use Rattle.exact.specs.Index.{f-m}
+use Rattle.ship.specs.Figures.{ice-of}
 use Rattle.plant.proofs.ice_factor.Statement.{statement}
 use Rattle.plant.proofs.ice_factor.Tie as tie
 
+-- No number but 1 has f_m.
+others : (ice : ℕ) → (ice ≡ 1 → ⊥) → f-m (ice-of ice) ≡ 100
+unfolding f-m
+others zero n = refl
+others (suc zero) n = absurd (n refl)
+others (suc (suc ice)) n = refl
+
 returns : tie.Need-returns
 unfolding f-m
-returns c = (rw (eq-eqb _ _ (c .if1 .taken)), search needs)
+returns c = (rw (c .if1 .taken), search needs)
 
 returns-2 : tie.Need-returns-2
-unfolding f-m
-returns-2 c = (rw (ne-eqb _ _ (c .if1 .left)), search needs)
+returns-2 c = (rw (others _ (c .if1 .left)), search needs)
 
 pub ice-factor-spec : {M : Type 1} → statement M
 ice-factor-spec = tie.close (tie.spec returns returns-2)

@@ -2,7 +2,7 @@
 -- Assumes nothing.
 use Rattle.fields.specs.Runs.{numbers-at}
 use Rattle.ship.specs.Refusals.{first-of}
-use Rattle.block.specs.Layout.{head, entry, entries, fields, widths, numbers-in}
+use Rattle.layout.specs.Layout.{head, entry, entries, fields, widths, numbers-in}
 use Rattle.block.specs.Answers.{layout-refused, block-tests}
 use borrow.Author.Needs.{needs}
 use Rattle.block.proofs.reading.block_refusal.Statement.{statement}

@@ -1,7 +1,7 @@
 -- `block::reading::newer_broken` meets its contract.
 -- Assumes nothing.
 use Rattle.fields.specs.Runs.{numbers-at}
-use Rattle.block.specs.Layout.{head, entry, entries, newer, fields, widths, numbers-in}
+use Rattle.layout.specs.Layout.{head, entry, entries, newer, fields, widths, numbers-in}
 use borrow.Author.Needs.{needs}
 use Rattle.block.proofs.reading.newer_broken.Statement.{statement}
 use Rattle.block.proofs.reading.newer_broken.Tie as tie

@@ -2,7 +2,7 @@
 -- Assumes nothing.
 use mathlib.Core.Bool.{_||_}
 use Rattle.fields.specs.Runs.{numbers-at}
-use Rattle.block.specs.Layout.{head, entry, entries, fields, widths, numbers-in}
+use Rattle.layout.specs.Layout.{head, entry, entries, fields, widths, numbers-in}
 use Rattle.block.specs.Answers.{zeros-refused}
 use borrow.Author.Needs.{needs}
 use Rattle.block.proofs.reading.zeros_broken.Statement.{statement}

@@ -1,0 +1,3 @@
+pub mod Codec
+pub mod Fitting
+pub mod Places

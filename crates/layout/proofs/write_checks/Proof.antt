@@ -1,0 +1,19 @@
+-- `layout::write_checks` meets its contract.
+-- Assumes nothing.
+use mathlib.Core.Path.{refl}
+use native.Mathlib.Omega.{arith}
+use Rattle.fields.specs.Runs.{total}
+use borrow.Author.Needs.{needs}
+use Rattle.layout.proofs.write_checks.Statement.{statement}
+use Rattle.layout.proofs.write_checks.Tie as tie
+
+put-run-requires : tie.Need-put-run-requires
+unfolding total
+put-run-requires c κs = (refl, omega arith)
+
+returns : tie.Need-returns
+returns c = c .before .before .put-run .ensures
+
+pub write-checks-spec : {M : Type 1} → statement M
+write-checks-spec =
+    tie.close (tie.spec (λ c. search needs) (λ c. search needs) (λ c. search needs) (λ c. search needs) put-run-requires (λ c. search needs) returns)

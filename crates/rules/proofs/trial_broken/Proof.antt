@@ -1,0 +1,27 @@
+-- `rules::trial_broken` meets its contract.
+-- Assumes nothing.
+use Rattle.ship.specs.Rules.{trial-refused}
+use lib.ListN.{length}
+use Rattle.ship.specs.Figures.{kinds}
+use Rattle.ship.proofs.Tests.{inside, engines-inside}
+use borrow.Author.Needs.{needs}
+use Rattle.rules.proofs.trial_broken.Statement.{statement}
+use Rattle.rules.proofs.trial_broken.Tie as tie
+
+power-sum-requires : tie.Need-power-sum-requires
+power-sum-requires c κs =
+    let start = c .before in
+    let k = engines-inside (start .args .p .used) (start .args .es) (start .pre .2) in
+    (k .0 .most, k .1)
+
+capacity-of-requires : tie.Need-capacity-of-requires
+capacity-of-requires c κs =
+    let start = c .before .before .before in
+    (inside 1 (length kinds) (start .args .p .kind) (start .pre .0), inside 100 600000 (start .args .p .deadweight .tonnes) (start .pre .1) .most)
+
+returns : tie.Need-returns
+unfolding trial-refused
+returns c = rw (c .is-apart2 .ensures, c .before .capacity-of .ensures .0, c .before .before .is-apart .ensures, c .before .before .before .power-sum .ensures .0)
+
+pub trial-broken-spec : {M : Type 1} → statement M
+trial-broken-spec = tie.close (tie.spec power-sum-requires (λ c κs. search needs) capacity-of-requires (λ c κs. search needs) returns)

@@ -1,0 +1,122 @@
+// The rules of a record in their order, and rules 15 and 16, which come last.
+use hull_rules::hull_refusal;
+use plant_rules::plant_refusal;
+use ship::Engine;
+use ship::Particulars;
+use ship::Refusal;
+use ship::Ship;
+use ship::first;
+use ship::number;
+use ship::power::capacity_of;
+use ship::power::engine_power;
+ghost use mathlib.Core.Path.{_≡_};
+ghost use mathlib.Core.Bool.{false};
+ghost use Prim.Native.Nat.{ℕ, _≤_, _<_};
+ghost use lib.ListN.{getD};
+ghost use Rattle.exact.specs.Index.{sum-P-ME};
+ghost use Rattle.exact.specs.Ranges.{engines-at, low};
+ghost use Rattle.ship.specs.Record.{no-engine};
+ghost use Rattle.ship.specs.Figures.{mains};
+ghost use Rattle.ship.specs.Refusals.{first-of};
+ghost use Rattle.ship.specs.Rules.{type-refused, deadweight-refused, engine-refused, engines-refused, apart, trial-refused, occupied};
+ghost use Rattle.ship.specs.Rules.{unused-refused, trial-tests, early-tests, tests, refusal-of};
+
+// The sum of P_ME over the engines that are used, each at its low MCR, in hundredths of a kW. Rule 15 asks for it once rule 9 holds.
+fn power_sum(engines: [Engine; 4], used: u64) -> u64
+    requires { ⌜ (used ≤ 4) × ((i : ℕ) → i < used → engine-refused (getD engines i no-engine) ≡ false) ⌝ }
+    ensures { λ r. ⌜ (r ≡ sum-P-ME (engines-at low (mains used engines))) × (r ≤ 36000000) ⌝ }
+{
+    let n = used as usize;
+    let mut sum: u64 = 0;
+    let mut i: usize = 0;
+    while i < n {
+        let e = engines[i];
+        sum += engine_power(e.mcr.low, e.limit);
+        i += 1;
+    }
+    sum
+}
+
+// Whether a whole number and one of hundredths are such that either is above 5 times the other.
+fn is_apart(whole: u64, hundredths: u64) -> bool
+    requires { ⌜ hundredths ≤ 60000000 ⌝ }
+    ensures { λ r. ⌜ r ≡ apart whole hundredths ⌝ }
+{
+    (hundredths / 20 < whole) | (whole < (hundredths + 499) / 500)
+}
+
+// Rule 15, of a record whose type, deadweight and engines broke none.
+fn trial_broken(p: Particulars, es: [Engine; 4]) -> bool
+    requires { ⌜ (type-refused (p .kind) ≡ false) × (deadweight-refused (p .deadweight) ≡ false) × (engines-refused (p .used) es ≡ false) ⌝ }
+    ensures { λ r. ⌜ r ≡ trial-refused p es ⌝ }
+{
+    let method = p.method;
+    let power = p.trial.power;
+    let load = p.trial.deadweight.tonnes;
+    let deadweight = p.deadweight;
+    let power_apart = is_apart(power, power_sum(es, p.used));
+    let load_apart = is_apart(load, capacity_of(p.kind, deadweight));
+    ((method == 1) | (method == 4)) & ((power != 0) | (load != 0))
+        | ((method == 2) | (method == 3)) & (((power < 1) | (600000 < power)) | power_apart)
+        | (method == 2) & (load != 0)
+        | (method == 3) & ((load == 0) | load_apart)
+}
+
+// Rule 16, of one entry, and of the entries.
+fn is_occupied(e: Engine) -> bool
+    ensures { λ r. ⌜ r ≡ occupied e ⌝ }
+{
+    (e.mcr.low != 0)
+        | (e.mcr.high != 0)
+        | (e.limit != 0)
+        | (e.uses.sfc.low != 0)
+        | (e.uses.sfc.high != 0)
+        | (e.uses.fuel != 0)
+        | (e.uses.source != 0)
+}
+
+fn unused_broken(used: u64, es: [Engine; 4]) -> bool
+    ensures { λ r. ⌜ r ≡ unused-refused used es ⌝ }
+{
+    let a = es[0];
+    let b = es[1];
+    let c = es[2];
+    let d = es[3];
+    (used <= 0) & is_occupied(a)
+        | (used <= 1) & is_occupied(b)
+        | (used <= 2) & is_occupied(c)
+        | (used <= 3) & is_occupied(d)
+}
+
+// Rules 15 and 16, of a record that broke none of the others; `zeros` is whether a block has a byte that must be zero and isn't.
+fn trial_refusal(zeros: bool, s: Ship) -> Refusal
+    requires { ⌜ first-of (early-tests s) Refusal.None ≡ Refusal.None ⌝ }
+    ensures { λ r. ⌜ r ≡ first-of (trial-tests zeros s) Refusal.None ⌝ }
+{
+    let p = s.particulars;
+    let es = s.engines;
+    let unused = first(
+        zeros | unused_broken(p.used, es),
+        Refusal::Unused,
+        Refusal::None,
+    );
+    first(trial_broken(p, es), Refusal::Trial, unused)
+}
+
+// The first rule from 4 on that is broken, or none. Rule 15 calculates, so it waits until the others hold.
+pub fn first_broken(zeros: bool, s: Ship) -> Refusal
+    ensures { λ r. ⌜ r ≡ first-of (tests zeros s) Refusal.None ⌝ }
+{
+    let early = hull_refusal(s, plant_refusal(s));
+    if number(early) != 0 {
+        return early;
+    }
+    trial_refusal(zeros, s)
+}
+
+// The first rule that a record breaks, or none.
+pub fn refusal(s: Ship) -> Refusal
+    ensures { λ r. ⌜ r ≡ refusal-of s ⌝ }
+{
+    first_broken(false, s)
+}
