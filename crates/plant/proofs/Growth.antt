@@ -92,20 +92,18 @@ engine-limit h = limit-small (omega (arith, h .mcr .rising, h .mcr .most)) (h .l
 
 -- What n engines come to.
 pub record Bounded (n : ℕ) (es : List (Engine ℕ)) : Type 0 where
-  pub power : sum-P-ME es ≤ n * 9000000
   pub rated : rated es ≤ n * 120000
   pub grams : Within (n * 5156250000) (n * 115416000000000) (main-grams es)
 
 pub bounded : (top : Bool) {es : List (Engine Range)} → Each Rated es → Bounded (length es) (engines-at (end top) es)
 unfolding sum-P-ME rated main-grams engines-at
-bounded top figures-accepted.no-more = record { power = omega arith; rated = omega arith; grams = record { least = omega arith; most = omega arith } }
+bounded top figures-accepted.no-more = record { rated = omega arith; grams = record { least = omega arith; most = omega arith } }
 bounded top (figures-accepted.one-more {x = e} h hs) =
     let m = end-within top (h .mcr) in
     let p = power-within (end top (e .mcr)) (e .mcr .low) (e .limit) (m .least) (m .most) (h .limit) in
     let g = product-within p (grams-within top 190 (record { least = lit≤ tt; most = lit≤ tt }) (e .uses) (h .uses)) in
     let r = bounded top hs in
     record {
-      power = omega (arith, p .most, r .power);
       rated = omega (arith, m .most, r .rated);
       grams = record { least = omega (arith, g .least, r .grams .least); most = omega (arith, g .most, r .grams .most) };
     }

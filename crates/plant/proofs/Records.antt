@@ -14,7 +14,7 @@ use Rattle.ship.specs.declared.Ship.{Ship}
 use Rattle.ship.specs.declared.Refusal.the-variants as refusal
 use Rattle.ship.proofs.Right.{numbers-accepted}
 use Rattle.ship.proofs.Figured.{rated-entry, figures-accepted}
-use Rattle.plant.specs.Plant.{end, at-end, Entered, grams, auxiliary-power, main-N, auxiliary-N, load-of, sums-of, P-ME-of}
+use Rattle.plant.specs.Plant.{end, at-end, Entered, grams, auxiliary-power, main-N, auxiliary-N, load-of, sums-of}
 use Rattle.plant.specs.declared.Sums.{Sums}
 use Rattle.plant.proofs.Growth.{bounded, load-within}
 
@@ -26,7 +26,6 @@ pub record Accepted-plant (s : Ship) : Type 0 where
 
 -- The sums at one end, and the emissions as the code works them out.
 pub record Summed (s : Ship) (top : Bool) (t : Sums) : Type 0 where
-  pub power : t .power ≡ P-ME-of (at-end top (figures s))
   pub mcr : t .rated ≤ 480000
   pub small : 10 * t .grams ≤ 6000000000000000
   pub main : 10 * t .grams ≡ main-N (at-end top (figures s))
@@ -52,7 +51,7 @@ module _ (s : Ship) (four : length (s .engines) ≡ 4) (none : refusal-of s ≡ 
       let a = figures-accepted s four none in
       let b = bounded top (a .engines) in
       let n = a .count .most in
-      rw e (record { power = refl; mcr = omega (arith, b .rated, n); small = omega (arith, b .grams .most, n); main = refl; auxiliary = λ p q. rw (p, q) })
+      rw e (record { mcr = omega (arith, b .rated, n); small = omega (arith, b .grams .most, n); main = refl; auxiliary = λ p q. rw (p, q) })
 
   pub load-fits : load-of (figures s .ship) ≤ 6300000000
   load-fits = load-within (figures s .ship) (figures-accepted s four none .deadweight) .most

@@ -7,7 +7,7 @@ use mathlib.Core.List.{List}
 use native.Mathlib.Numerals.{add-one}
 use native.Mathlib.Omega.{arith}
 use lib.ListN.{length, getD}
-use Rattle.exact.specs.Index.{P-ME, sum-P-ME, rated}
+use Rattle.exact.specs.Index.{P-ME, rated}
 use Rattle.exact.specs.Ranges.{Range, engines-at}
 use Rattle.ship.specs.Record.{no-engine}
 use Rattle.ship.specs.Figures.{entry-at, mains}
@@ -18,17 +18,16 @@ use Rattle.ship.proofs.Figured.{each-main, count}
 use Rattle.plant.specs.Plant.{end, Entered, Roomy, grams, main-grams, sums-of, with-engine}
 use Rattle.plant.proofs.Growth.{bounded}
 
-pub no-sums : (p : Range → ℕ) (es : List Engine) → sums-of (engines-at p (mains 0 es)) ≡ record { power = 0; rated = 0; grams = 0 }
-unfolding mains engines-at sum-P-ME rated main-grams
+pub no-sums : (p : Range → ℕ) (es : List Engine) → sums-of (engines-at p (mains 0 es)) ≡ record { rated = 0; grams = 0 }
+unfolding mains engines-at rated main-grams
 no-sums p es = refl
 
 pub sums-step : (p : Range → ℕ) (es : List Engine) (i : ℕ) → i < length es
     → with-engine (sums-of (engines-at p (mains i es))) (entry-at p (getD es i no-engine)) ≡ sums-of (engines-at p (mains (i + 1) es))
-unfolding sum-P-ME rated main-grams
+unfolding rated main-grams
 sums-step p es i h =
     rw (
       add-one,
-      sum-grows sum-P-ME (λ e. P-ME (e .mcr) (e .limit)) refl (λ e es. refl) p i es h,
       sum-grows rated (λ e. e .mcr) refl (λ e es. refl) p i es h,
       sum-grows main-grams (λ e. P-ME (e .mcr) (e .limit) * grams 190 (e .uses)) refl (λ e es. refl) p i es h,
     )
@@ -40,4 +39,4 @@ roomy top n es entered four long i h =
     let room : i ≤ length es = omega arith in
     let b = bounded top (each-main Rated i es room (λ j k. entered j (omega arith) .0)) in
     let k = count i es room in
-    record { power = omega (arith, b .power); rated = omega (arith, b .rated); grams = omega (arith, b .grams .most) }
+    record { rated = omega (arith, b .rated); grams = omega (arith, b .grams .most) }

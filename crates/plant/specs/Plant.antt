@@ -58,17 +58,15 @@ load-of s = Capacity (s .kind) (s .deadweight) * f-m (s .ice)
 
 -- ── Of a record ─────────────────────────────────────────────────────────────────────────────
 
--- The three sums over main engines, and with one engine more.
+-- The sums over main engines, and with one engine more.
 abbrev pub sums-of : List (Engine ℕ) → Sums
-sums-of es = record { power = sum-P-ME es; rated = rated es; grams = main-grams es }
+sums-of es = record { rated = rated es; grams = main-grams es }
 
 abbrev pub with-engine : Sums → Engine ℕ → Sums
-with-engine s e =
-    record { power = s .power + P-ME (e .mcr) (e .limit); rated = s .rated + e .mcr; grams = s .grams + P-ME (e .mcr) (e .limit) * grams 190 (e .uses) }
+with-engine s e = record { rated = s .rated + e .mcr; grams = s .grams + P-ME (e .mcr) (e .limit) * grams 190 (e .uses) }
 
 -- The sums of at most three engines, so that a fourth one fits.
 pub record Roomy (s : Sums) : Type 0 where
-  pub power : s .power ≤ 27000000
   pub rated : s .rated ≤ 360000
   pub grams : s .grams ≤ 346248000000000
 

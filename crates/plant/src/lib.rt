@@ -15,9 +15,8 @@ ghost use Rattle.ship.specs.Rules.{refusal-of};
 ghost use Rattle.ship.specs.declared.Refusal.the-variants as refusal;
 ghost use Rattle.plant.specs.Plant.{end, Entered, Roomy, grams, auxiliary-power, load-of, sums-of, with-engine, ends-of, P-ME-of, emitted-of};
 
-// Over the main engines: P_ME in 1/100 kW, MCR in kW, P_ME × C_F × SFC in 10^-6 g/h.
+// Over the main engines: MCR in kW, P_ME × C_F × SFC in 10^-6 g/h.
 struct Sums {
-    pub power: u64,
     pub rated: u64,
     pub grams: u64,
 }
@@ -81,14 +80,9 @@ fn and_engine(sums: Sums, e: Engine, high: bool) -> Sums
     let uses = e.uses;
     let mcr = end_of(range, high);
     let kw = ship::power::engine_power(mcr, e.limit);
-    let power = sums.power + kw;
     let rated = sums.rated + mcr;
     let grams = sums.grams + kw * emission(uses, 190, high);
-    Sums {
-        power,
-        rated,
-        grams,
-    }
+    Sums { rated, grams }
 }
 
 // The sums over the engines that are used, at both ends in one walk.
@@ -97,11 +91,7 @@ fn main_sums(engines: [Engine; 4], used: u64) -> SumEnds
     ensures { λ r. ⌜ (r .low ≡ sums-of (engines-at low (mains used engines))) × (r .high ≡ sums-of (engines-at high (mains used engines))) ⌝ }
 {
     let n = used as usize;
-    let none = Sums {
-        power: 0,
-        rated: 0,
-        grams: 0,
-    };
+    let none = Sums { rated: 0, grams: 0 };
     let mut low = none;
     let mut high = none;
     let mut i: usize = 0;
@@ -135,11 +125,7 @@ pub fn powers(s: Ship) -> Range
     ensures { λ r. ⌜ r ≡ ends-of P-ME-of (figures s) ⌝ }
 {
     let engines = s.engines;
-    let sums = main_sums(engines, s.particulars.used);
-    Range {
-        low: sums.low.power,
-        high: sums.high.power,
-    }
+    ship::power::power_sums(engines, s.particulars.used)
 }
 
 // The emissions of a record that rules 4 to 16 leave, in 10^-7 g/h, at both ends of its ranges.

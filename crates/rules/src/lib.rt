@@ -8,34 +8,13 @@ use ship::Ship;
 use ship::first;
 use ship::number;
 use ship::power::capacity_of;
-use ship::power::engine_power;
+use ship::power::power_sums;
 ghost use mathlib.Core.Path.{_≡_};
 ghost use mathlib.Core.Bool.{false};
-ghost use Prim.Native.Nat.{ℕ, _≤_, _<_};
-ghost use lib.ListN.{getD};
-ghost use Rattle.exact.specs.Index.{sum-P-ME};
-ghost use Rattle.exact.specs.Ranges.{engines-at, low};
-ghost use Rattle.ship.specs.Record.{no-engine};
-ghost use Rattle.ship.specs.Figures.{mains};
+ghost use Prim.Native.Nat.{_≤_};
 ghost use Rattle.ship.specs.Refusals.{first-of};
-ghost use Rattle.ship.specs.Rules.{type-refused, deadweight-refused, engine-refused, engines-refused, apart, trial-refused, occupied};
+ghost use Rattle.ship.specs.Rules.{type-refused, deadweight-refused, engines-refused, apart, trial-refused, occupied};
 ghost use Rattle.ship.specs.Rules.{unused-refused, trial-tests, early-tests, tests, refusal-of};
-
-// The sum of P_ME over the engines that are used, each at its low MCR, in hundredths of a kW. Rule 15 asks for it once rule 9 holds.
-fn power_sum(engines: [Engine; 4], used: u64) -> u64
-    requires { ⌜ (used ≤ 4) × ((i : ℕ) → i < used → engine-refused (getD engines i no-engine) ≡ false) ⌝ }
-    ensures { λ r. ⌜ (r ≡ sum-P-ME (engines-at low (mains used engines))) × (r ≤ 36000000) ⌝ }
-{
-    let n = used as usize;
-    let mut sum: u64 = 0;
-    let mut i: usize = 0;
-    while i < n {
-        let e = engines[i];
-        sum += engine_power(e.mcr.low, e.limit);
-        i += 1;
-    }
-    sum
-}
 
 // Whether a whole number and one of hundredths are such that either is above 5 times the other.
 fn is_apart(whole: u64, hundredths: u64) -> bool
@@ -54,7 +33,8 @@ fn trial_broken(p: Particulars, es: [Engine; 4]) -> bool
     let power = p.trial.power;
     let load = p.trial.deadweight.tonnes;
     let deadweight = p.deadweight;
-    let power_apart = is_apart(power, power_sum(es, p.used));
+    let sums = power_sums(es, p.used);
+    let power_apart = is_apart(power, sums.low);
     let load_apart = is_apart(load, capacity_of(p.kind, deadweight));
     ((method == 1) | (method == 4)) & ((power != 0) | (load != 0))
         | ((method == 2) | (method == 3)) & (((power < 1) | (600000 < power)) | power_apart)

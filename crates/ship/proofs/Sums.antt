@@ -8,7 +8,7 @@ use native.Mathlib.Omega.{arith}
 use lib.ListN.{length, getD}
 use Rattle.exact.specs.Index.{P-ME, sum-P-ME}
 use Rattle.exact.specs.Ship as exact
-use Rattle.exact.specs.Ranges.{Range, engines-at, low}
+use Rattle.exact.specs.Ranges.{Range, engines-at}
 use Rattle.ship.specs.Record.{no-engine}
 use Rattle.ship.specs.Figures.{engine-of, entry-at, mains}
 use Rattle.ship.specs.declared.Engine.{Engine}
@@ -22,11 +22,11 @@ module _ (F : List (exact.Engine ℕ) → ℕ) (f : exact.Engine ℕ → ℕ) (n
   sum-grows (suc i) (e ∷ es) h =
       omega (arith, sum-grows i es (omega arith), more (entry-at p e) (engines-at p (mains (suc i) es)), more (entry-at p e) (engines-at p (mains i es)))
 
-pub sum-none : (es : List Engine) → sum-P-ME (engines-at low (mains 0 es)) ≡ 0
+pub sum-none : (p : Range → ℕ) (es : List Engine) → sum-P-ME (engines-at p (mains 0 es)) ≡ 0
 unfolding mains sum-P-ME engines-at
-sum-none es = refl
+sum-none p es = refl
 
-pub sum-step : (es : List Engine) (i : ℕ) → i < length es
-    → sum-P-ME (engines-at low (mains (i + 1) es)) ≡ sum-P-ME (engines-at low (mains i es)) + P-ME (getD es i no-engine .mcr .low) (getD es i no-engine .limit)
+pub sum-step : (p : Range → ℕ) (es : List Engine) (i : ℕ) → i < length es
+    → sum-P-ME (engines-at p (mains (i + 1) es)) ≡ sum-P-ME (engines-at p (mains i es)) + P-ME (entry-at p (getD es i no-engine) .mcr) (getD es i no-engine .limit)
 unfolding sum-P-ME
-sum-step es i h = rw add-one (sum-grows sum-P-ME (λ e. P-ME (e .mcr) (e .limit)) refl (λ e es. refl) low i es h)
+sum-step p es i h = rw add-one (sum-grows sum-P-ME (λ e. P-ME (e .mcr) (e .limit)) refl (λ e es. refl) p i es h)

@@ -18,13 +18,13 @@ engine-power-requires c κs =
     (rw (c .end-of .ensures) (u .mcr), u .limit)
 
 add-rated : tie.Need-add-rated
-add-rated c = omega (arith, entry (c .before .before .before .before .before .before) .mcr, c .before .before .before .end-of .ensures)
+add-rated c = omega (arith, entry (c .before .before .before .before .before) .mcr, c .before .before .end-of .ensures)
 
 emission-requires : tie.Need-emission-requires
-emission-requires c κs = (entry (c .before .before .before .before .before .before) .uses, search needs)
+emission-requires c κs = (entry (c .before .before .before .before .before) .uses, search needs)
 
-product : (c : tie.After-emission) → c .before .before .before .engine-power .result * c .emission .result ≤ 115416000000000
-product c = mul-le-mul (c .before .before .before .engine-power .ensures .1) (c .emission .ensures .1)
+product : (c : tie.After-emission) → c .before .before .engine-power .result * c .emission .result ≤ 115416000000000
+product c = mul-le-mul (c .before .before .engine-power .ensures .1) (c .emission .ensures .1)
 
 mul-grams : tie.Need-mul-grams
 mul-grams c = omega (arith, product c)
@@ -34,9 +34,9 @@ add-grams c = omega (arith, product (c .before))
 
 returns : tie.Need-returns
 returns c =
-    let kw = rw (c .before .before .before .before .before .end-of .ensures) at (c .before .before .before .before .engine-power .ensures .0) in
-    cc (kw, c .before .emission .ensures .0, c .before .before .before .before .before .end-of .ensures)
+    let kw = rw (c .before .before .before .before .end-of .ensures) at (c .before .before .before .engine-power .ensures .0) in
+    cc (kw, c .before .emission .ensures .0, c .before .before .before .before .end-of .ensures)
 
 pub and-engine-spec : {M : Type 1} → statement M
 and-engine-spec =
-    tie.close (tie.spec (λ c κs. search needs) engine-power-requires (λ c. search needs) add-rated emission-requires mul-grams add-grams returns)
+    tie.close (tie.spec (λ c κs. search needs) engine-power-requires add-rated emission-requires mul-grams add-grams returns)

@@ -8,8 +8,8 @@ use borrow.Author.Needs.{needs}
 use Rattle.rules.proofs.trial_broken.Statement.{statement}
 use Rattle.rules.proofs.trial_broken.Tie as tie
 
-power-sum-requires : tie.Need-power-sum-requires
-power-sum-requires c κs =
+power-sums-requires : tie.Need-power-sums-requires
+power-sums-requires c κs =
     let start = c .before in
     let k = engines-inside (start .args .p .used) (start .args .es) (start .pre .2) in
     (k .0 .most, k .1)
@@ -21,7 +21,7 @@ capacity-of-requires c κs =
 
 returns : tie.Need-returns
 unfolding trial-refused
-returns c = rw (c .is-apart2 .ensures, c .before .capacity-of .ensures .0, c .before .before .is-apart .ensures, c .before .before .before .power-sum .ensures .0)
+returns c = rw (c .is-apart2 .ensures, c .before .capacity-of .ensures .0, c .before .before .is-apart .ensures, c .before .before .before .power-sums .ensures .0 .0)
 
 pub trial-broken-spec : {M : Type 1} → statement M
-trial-broken-spec = tie.close (tie.spec power-sum-requires (λ c κs. search needs) capacity-of-requires (λ c κs. search needs) returns)
+trial-broken-spec = tie.close (tie.spec power-sums-requires (λ c κs. search needs) capacity-of-requires (λ c κs. search needs) returns)
