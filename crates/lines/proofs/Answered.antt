@@ -1,13 +1,13 @@
 -- Laws of a block's line.
 -- Assumes nothing.
-use Prim.Native.Nat.{ℕ, _^_, _≤_, _<_}
+use Prim.Native.Nat.{ℕ}
 use mathlib.Core.Path.{_≡_, refl, ap, _∙_}
 use mathlib.Core.List.{List}
 use mathlib.Core.Bool.{Bool, true, false}
 use native.Mathlib.Omega.{arith}
 use borrow.Author.Tests.{eqb-true, eqb-false, ne-eqb}
 use lib.Dec.{eqb}
-use lib.ListN.{length, length-append}
+use lib.ListN.{length}
 use Rattle.fields.specs.Numbers.{number-at}
 use Rattle.fields.specs.Runs.{numbers-at}
 use Rattle.ship.specs.Refusals.{number-of, first-of}
@@ -18,8 +18,8 @@ use Rattle.block.specs.Answers.{read-refusal, read-of}
 use Rattle.index.specs.declared.Index.{Index}
 use Rattle.desk.specs.Answers.{answer-of-block}
 use Rattle.desk.specs.declared.Answer.the-variants.{Bounds, Refused}
-use Rattle.lines.specs.Lines.{line-by, line-of, bounds-line, refusal-line}
-use Rattle.decimal.proofs.Spelling.{width-limit}
+use Rattle.line.specs.Line.{bounds-line, refusal-line}
+use Rattle.lines.specs.Lines.{line-by, line-of}
 
 -- A piece that is not a block is refused with 1.
 pub short-refused : (b : List ℕ) → (length b ≡ 512 → ⊥) → answer-of-block b ≡ Refused Length
@@ -49,15 +49,6 @@ line-bounds n imo b i e h = ap (λ (m : ℕ). line-by n m (Bounds i)) h ∙ ap (
 pub line-refusal : (n k : ℕ) (b : List ℕ) (r : Refusal) → Refused r ≡ answer-of-block b → k ≡ number-of r → refusal-line n k ≡ line-of n b
 unfolding line-of
 line-refusal n k b r e h = ap (refusal-line n) h ∙ ap (line-by n (number-at b 4 4)) e
-
--- Lines of 64-bit numbers have at most 84 bytes.
-pub bounds-longest : (n imo lower upper : ℕ) → n < 2 ^ 64 → imo < 2 ^ 64 → lower < 2 ^ 64 → upper < 2 ^ 64
-    → length (bounds-line n imo lower upper) ≤ 84
-bounds-longest n imo lower upper h k l u =
-    simp length-append (omega (arith, width-limit n h, width-limit imo k, width-limit lower l, width-limit upper u))
-
-pub refusal-longest : (n r : ℕ) → n < 2 ^ 64 → r < 2 ^ 64 → length (refusal-line n r) ≤ 84
-refusal-longest n r h k = simp length-append (omega (arith, width-limit n h, width-limit r k))
 
 -- Bytes 4–7 of an accepted block are the IMO number of its record.
 pub imo-read : (b : List ℕ) → read-refusal b ≡ None → number-at b 4 4 ≡ read-of b .ship .particulars .imo

@@ -1,38 +1,14 @@
 // The lines of the program: for each block its number and the desk's answer.
-use decimal::put_number;
-use decimal::put_text;
 use desk::Answer;
-use index::Index;
+use line::put_bounds;
+use line::put_refusal;
 ghost use mathlib.Core.Path.{_≡_};
 ghost use Prim.Native.Nat.{_+_, _-_, _*_, _≤_, _<_};
 ghost use lib.Dec.{ltb};
 ghost use lib.ListN.{length};
 ghost use Rattle.formula.specs.Words.{if};
 ghost use Rattle.decimal.specs.Digits.{Put};
-ghost use Rattle.lines.specs.Lines.{bounds-line, refusal-line, line-of, pieces, lines-to, lines-within};
-
-// Number, IMO number, lower, upper. The longest line has four numbers of 20 digits, each with a byte behind it: 84 bytes.
-fn put_bounds(out: &mut [u8], at: usize, n: u64, imo: u64, bounds: Index) -> usize
-    requires { ⌜ at + 84 ≤ length (now out) ⌝ }
-    ensures { λ r. ⌜ Put (now (out .entry)) at (bounds-line n imo (bounds .lower) (bounds .upper)) (now (out .exit)) r ⌝ }
-    ensures { λ r. ⌜ r ≤ at + 84 ⌝ }
-{
-    let a = put_number(out, at, n, b' ');
-    let b = put_number(out, a, imo, b' ');
-    let c = put_number(out, b, bounds.lower, b' ');
-    put_number(out, c, bounds.upper, b'\n')
-}
-
-// Number, `refused`, refusal number.
-fn put_refusal(out: &mut [u8], at: usize, n: u64, refusal: u64) -> usize
-    requires { ⌜ at + 84 ≤ length (now out) ⌝ }
-    ensures { λ r. ⌜ Put (now (out .entry)) at (refusal-line n refusal) (now (out .exit)) r ⌝ }
-    ensures { λ r. ⌜ r ≤ at + 84 ⌝ }
-{
-    let a = put_number(out, at, n, b' ');
-    let b = put_text(out, a, b"refused ");
-    put_number(out, b, refusal, b'\n')
-}
+ghost use Rattle.lines.specs.Lines.{line-of, pieces, lines-to, lines-within};
 
 // The line of block n from `at` on; answers the place behind it.
 fn put_line(out: &mut [u8], at: usize, n: u64, block: &[u8]) -> usize
@@ -42,7 +18,14 @@ fn put_line(out: &mut [u8], at: usize, n: u64, block: &[u8]) -> usize
 {
     let answer = desk::bounds_of_block(block);
     match answer {
-        Answer::Bounds(bounds) => put_bounds(out, at, n, fields::number_at(block, 4, 4), bounds),
+        Answer::Bounds(bounds) => put_bounds(
+            out,
+            at,
+            n,
+            fields::number_at(block, 4, 4),
+            bounds.lower,
+            bounds.upper,
+        ),
         Answer::Refused(refusal) => put_refusal(out, at, n, ship::number(refusal) as u64),
     }
 }

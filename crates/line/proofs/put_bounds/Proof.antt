@@ -1,10 +1,10 @@
--- `lines::put_bounds` meets its contract.
+-- `line::put_bounds` meets its contract.
 -- Assumes nothing.
 use native.Mathlib.Omega.{arith}
 use Rattle.decimal.proofs.Putting.{put-put}
 use borrow.Author.Needs.{needs}
-use Rattle.lines.proofs.put_bounds.Statement.{statement}
-use Rattle.lines.proofs.put_bounds.Tie as tie
+use Rattle.line.proofs.put_bounds.Statement.{statement}
+use Rattle.line.proofs.put_bounds.Tie as tie
 
 returns : tie.Need-returns
 returns c =
