@@ -37,7 +37,7 @@ use Rattle.fields.specs.Numbers.{Bytes}
 use Rattle.layout.specs.Layout.{encode, ship-from, ship-in}
 use Rattle.block.specs.Answers.{length-refused, block-tests, read-refusal, read-of, loaded, write-refusal, write-of}
 use Rattle.block.proofs.Theorems as block
-use Rattle.speed.specs.Speeds.{Speed}
+use Rattle.propeller.specs.Propeller.{Speed}
 use Rattle.index.specs.Attained.{speed-of, lower-of, upper-of, index-of}
 use Rattle.index.specs.declared.Index.{Index}
 use Rattle.index.proofs.Laws as law

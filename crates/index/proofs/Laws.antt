@@ -3,14 +3,14 @@ use mathlib.Core.Path.{_≡_, refl, ap, ap₂}
 use mathlib.Core.Bool.{Bool, true, false, not}
 use mathlib.Core.List.{List, [], _∷_}
 use Prim.Native.Nat.{ℕ, _+_, _*_, _^_, _≤_, _<_}
-use native.Mathlib.Nat.{mul-pos, mul-le-mul, mul-le-mul-left, mul-le-mul-right, suc-pred-eq-of-pos, le-trans, le-refl, lt-of-lt-of-le}
+use native.Mathlib.Nat.{mul-pos, mul-le-mul-left, mul-le-mul-right, suc-pred-eq-of-pos, le-trans, le-refl, lt-of-lt-of-le}
 use native.Mathlib.Omega.{arith}
 use lib.Dec.{lit<}
 use Rattle.formula.specs.Formula.{Frac, _//_, _≼_, _·_, Side, below, above, other, lies, at-most, at-least, Formula, bounds, by-product, by-quotient, Enclosed}
 use Rattle.exact.specs.Ship.{Deadweight, Kind, Engine, Method, declared, trial, design-trial, statistical, Figures}
 use Rattle.exact.specs.Ranges.{Range, low, high, engines-at, method-at, ship-at, Single, Settled, alike, Inside, Narrowed, most-favourable, least-favourable}
 use Rattle.formula.specs.Words.{whole}
-use Rattle.exact.specs.Index.{P-ME, sum-P-ME, f-c, Capacity, speed, emissions, load, transport, index}
+use Rattle.exact.specs.Index.{P-ME, sum-P-ME, f-c, speed, emissions, load, transport, index}
 use Rattle.formula.proofs.Fractions.{_≈_, lies-refl, lies-≈}
 use Rattle.formula.proofs.Formulas.{consistent}
 use Rattle.exact.proofs.Favour.{low-single, high-single, method-end, ship-inside, low-inside, high-inside}
@@ -22,9 +22,10 @@ use Rattle.plant.specs.Plant.{end, at-end, N, load-of}
 use Rattle.plant.proofs.Values.{emissions-exact, load-exact}
 use Rattle.plant.proofs.Growth.{end-within, N-within, N-inside, load-within}
 use Rattle.factor.proofs.Laws.{Follows, factor-law}
-use Rattle.speed.specs.Speeds.{exactly, Fitting, Accepted-speed, speed-by, Speed}
+use Rattle.propeller.specs.Propeller.{exactly, Speed}
+use Rattle.speed.specs.Speeds.{Fitting, Accepted-speed, speed-by}
 use Rattle.speed.proofs.Laws.{declared-exact, speed-law}
-use Rattle.speed.proofs.Sides.{at}
+use Rattle.propeller.proofs.Sides.{at}
 use Rattle.index.specs.Attained.{millionths-down, millionths-up, Sized, emitted, Emission, speed-of, factor-of, lower-of, upper-of}
 use Rattle.index.proofs.Rounding.{lower-floor, upper-ceil, upper-small, upper-some, lower-order, upper-order, bounds-near}
 

@@ -10,7 +10,8 @@ use Rattle.power.specs.declared.Bounds.{Bounds}
 use Rattle.ship.specs.Accepted.{Within}
 use Rattle.plant.specs.Plant.{N, load-of, P-ME-of}
 use Rattle.factor.specs.Factor.{factor-by}
-use Rattle.speed.specs.Speeds.{exactly, speed-by}
+use Rattle.propeller.specs.Propeller.{exactly}
+use Rattle.speed.specs.Speeds.{speed-by}
 use Rattle.index.specs.declared.SpeedBounds.{SpeedBounds}
 use Rattle.index.specs.declared.Index.{Index}
 

@@ -9,7 +9,7 @@ use Rattle.exact.specs.Ranges.{uses-at, engines-at, ship-at}
 use Rattle.ship.specs.Record.{no-engine}
 use Rattle.ship.specs.Figures.{uses-of, Fuelled, mains, auxiliary-of, figures}
 use Rattle.ship.specs.Rules.{refusal-of}
-use Rattle.ship.specs.Accepted.{Within, Measured, Supplied}
+use Rattle.ship.specs.Accepted.{Measured, Supplied}
 use Rattle.ship.specs.declared.Ship.{Ship}
 use Rattle.ship.specs.declared.Refusal.the-variants as refusal
 use Rattle.ship.proofs.Right.{numbers-accepted}

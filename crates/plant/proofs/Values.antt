@@ -1,6 +1,6 @@
 -- The whole numbers are the values of the index's formulas.
 -- Assumes nothing.
-use Prim.Native.Nat.{ℕ, _*_}
+use Prim.Native.Nat.{ℕ}
 use mathlib.Core.List.{List, [], _∷_}
 use native.Mathlib.Omega.{arith}
 use Rattle.formula.specs.Formula.{_//_, Formula, Enclosed}

@@ -5,7 +5,6 @@ use mathlib.Core.Bool.{Bool, true, false, not}
 use mathlib.Core.List.{List, [], _∷_}
 use Rattle.exact.specs.Ship.{Consumption, recorded, neither, Engine, Auxiliary, rule, table, Particulars, Figures}
 use Rattle.exact.specs.Ranges.{Range, low, high, ship-at}
-use Rattle.formula.specs.Words.{if}
 use Rattle.exact.specs.Index.{C-F, P-ME, sum-P-ME, rated, by-rule, Capacity, f-m}
 use Rattle.ship.specs.declared.Engine as entry
 use Rattle.ship.specs.declared.Range as record-range

@@ -11,7 +11,7 @@ use lib.ListN.{getD, length}
 use Rattle.exact.specs.Index.{Capacity, sum-P-ME}
 use Rattle.exact.specs.Ranges.{engines-at, low}
 use Rattle.ship.specs.Record.{no-engine}
-use Rattle.ship.specs.Refusals.{number-of, first-of}
+use Rattle.ship.specs.Refusals.{first-of}
 use Rattle.ship.specs.Figures.{kinds, kind-of, Listed, last-ice, Fuelled, deadweight-of, mains}
 use Rattle.ship.specs.Rules.{outside, between, nonzero, any-used, imo-refused, type-refused, deadweight-refused, gross-refused, volume-refused, engines-refused}
 use Rattle.ship.specs.Rules.{uses-refused, consumption-refused, auxiliary-refused, ice-refused, speed-refused, crossed, range-refused, engine-crossed}

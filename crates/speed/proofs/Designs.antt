@@ -21,10 +21,11 @@ use Rattle.power.specs.Power.{BoundsPower, Raisable, power-of, Power}
 use Rattle.power.proofs.Laws.{in-words, capped, power-law}
 use Rattle.ship.specs.Accepted.{Within, Near, By-design-draught}
 use Rattle.exact.proofs.Rules.{Capacity-between}
-use Rattle.speed.specs.declared.Split.{Split}
-use Rattle.speed.specs.Speeds.{pair, times-of, Parted, Factor, Fives, k-root-of, up-of, down-of, parts-of, design-of, Speed}
-use Rattle.speed.proofs.Products.{product-is}
-use Rattle.speed.proofs.Sides.{at, Upto, some-at, power-at, inverse-at, farther}
+use Rattle.propeller.specs.declared.Split.{Split}
+use Rattle.propeller.specs.Propeller.{pair, Parted, Speed}
+use Rattle.speed.specs.Speeds.{times-of, Factor, Fives, k-root-of, up-of, down-of, parts-of, design-of}
+use Rattle.propeller.proofs.Products.{product-is}
+use Rattle.propeller.proofs.Sides.{at, Upto, some-at, power-at, inverse-at, farther}
 use Rattle.speed.proofs.Trials.{measured, trial-moderate}
 
 -- ── The cube root of k ──────────────────────────────────────────────────────────────────────

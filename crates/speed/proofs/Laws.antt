@@ -7,8 +7,9 @@ use Rattle.exact.specs.Ship.{Deadweight, Kind, Method, declared, trial, design-
 use Rattle.exact.specs.Index.{V-ref}
 use Rattle.formula.proofs.Fractions.{_≈_, lies-≈}
 use Rattle.ship.specs.Accepted.{Within}
-use Rattle.speed.specs.Speeds.{exactly, Accepted-speed, speed-by, Speed}
-use Rattle.speed.proofs.Statistics.{statistical-speed}
+use Rattle.propeller.specs.Propeller.{exactly, Speed}
+use Rattle.speed.specs.Speeds.{Accepted-speed, speed-by}
+use Rattle.statistical.proofs.Statistics.{statistical-speed}
 use Rattle.speed.proofs.Trials.{trial-speed}
 use Rattle.speed.proofs.Designs.{design-speed}
 

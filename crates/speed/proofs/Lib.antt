@@ -1,8 +1,3 @@
-pub mod Products
-pub mod Rows
-pub mod Sides
-pub mod Reach
-pub mod Statistics
 pub mod Trials
 pub mod Designs
 pub mod Laws

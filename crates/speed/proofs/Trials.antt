@@ -11,10 +11,11 @@ use Rattle.formula.proofs.Fractions.{_≈_, ≈-sym, lies-refl, lies-≈}
 use Rattle.number.specs.Ratio.{Moderate}
 use Rattle.power.specs.declared.Bounds.{Bounds}
 use Rattle.ship.specs.Accepted.{Within, Near}
-use Rattle.speed.specs.declared.Split.{Split}
-use Rattle.speed.specs.Speeds.{exactly, undivided, Parted, trial-of, Speed}
-use Rattle.speed.proofs.Products.{Product, product-is}
-use Rattle.speed.proofs.Sides.{at, some-at, shape, Cubes, cubes}
+use Rattle.propeller.specs.declared.Split.{Split}
+use Rattle.propeller.specs.Propeller.{exactly, Parted, Speed}
+use Rattle.speed.specs.Speeds.{undivided, trial-of}
+use Rattle.propeller.proofs.Products.{Product, product-is}
+use Rattle.propeller.proofs.Sides.{at, some-at, shape, Cubes, cubes}
 
 -- ── A measured speed ────────────────────────────────────────────────────────────────────────
 

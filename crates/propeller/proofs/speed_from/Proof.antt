@@ -1,4 +1,4 @@
--- `speed::speed_from` meets its contract. Assumes nothing.
+-- `propeller::speed_from` meets its contract. Assumes nothing.
 use mathlib.Core.Path.{_≡_}
 use Prim.Native.Nat.{_*_, _^_, _≤_, _<_}
 use native.Mathlib.Nat.{le-trans, lt-of-le-of-lt}
@@ -7,10 +7,10 @@ use lib.Dec.{lit<}
 use borrow.Author.Needs.{needs}
 use Rattle.number.specs.Ratio.{cube-root-of}
 use Rattle.number.proofs.Ratios.{cube-named}
-use Rattle.speed.specs.Speeds.{speed-from}
-use Rattle.speed.proofs.Products.{scale-some, scale-few, low-product, high-product}
-use Rattle.speed.proofs.speed_from.Statement.{statement}
-use Rattle.speed.proofs.speed_from.Tie as tie
+use Rattle.propeller.specs.Propeller.{speed-from}
+use Rattle.propeller.proofs.Products.{scale-some, scale-few, low-product, high-product}
+use Rattle.propeller.proofs.speed_from.Statement.{statement}
+use Rattle.propeller.proofs.speed_from.Tie as tie
 
 -- The root by its name, and what fits of it.
 is : (c : tie.After-cube-root) → c .cube-root .result ≡ cube-root-of (c .before .args .n) (c .before .args .d)

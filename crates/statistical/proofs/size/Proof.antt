@@ -1,10 +1,10 @@
--- `speed::size` meets its contract. Assumes nothing.
+-- `statistical::size` meets its contract. Assumes nothing.
 use native.Mathlib.Omega.{arith}
 use borrow.Author.Tests.{eq-eqb, ne-eqb}
 use Rattle.exact.specs.Index.{sized}
 use Rattle.ship.proofs.Numbered.{is-container}
-use Rattle.speed.proofs.size.Statement.{statement}
-use Rattle.speed.proofs.size.Tie as tie
+use Rattle.statistical.proofs.size.Statement.{statement}
+use Rattle.statistical.proofs.size.Tie as tie
 
 returns : tie.Need-returns
 unfolding sized

@@ -1,13 +1,13 @@
--- `speed::average` meets its contract. Assumes nothing.
+-- `statistical::average` meets its contract. Assumes nothing.
 use Prim.Native.Nat.{_*_, _^_, _≤_}
 use native.Mathlib.Omega.{arith}
 use borrow.Author.Needs.{needs}
 use Rattle.ship.specs.Figures.{kind-of, deadweight-of}
-use Rattle.speed.specs.Speeds.{average-of}
-use Rattle.speed.proofs.Rows.{row-fits}
-use Rattle.speed.proofs.Statistics.{average-raisable, low-fits, high-fits}
-use Rattle.speed.proofs.average.Statement.{statement}
-use Rattle.speed.proofs.average.Tie as tie
+use Rattle.statistical.specs.Curves.{average-of}
+use Rattle.statistical.proofs.Rows.{row-fits}
+use Rattle.statistical.proofs.Statistics.{average-raisable, low-fits, high-fits}
+use Rattle.statistical.proofs.average.Statement.{statement}
+use Rattle.statistical.proofs.average.Tie as tie
 
 power-requires : tie.Need-power-requires
 power-requires c κs =

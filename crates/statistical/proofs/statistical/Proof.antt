@@ -1,14 +1,14 @@
--- `speed::statistical` meets its contract. Assumes nothing.
+-- `statistical::statistical` meets its contract. Assumes nothing.
 use Prim.Native.Nat.{_^_, _≤_}
 use native.Mathlib.Nat.{le-trans}
 use native.Mathlib.Omega.{arith}
 use borrow.Author.Needs.{needs}
 use Rattle.ship.specs.Figures.{kind-of, deadweight-of}
-use Rattle.speed.specs.Speeds.{statistical-of}
-use Rattle.speed.proofs.Rows.{row-fits}
-use Rattle.speed.proofs.Statistics.{Averaged, averaged, kept, over-raisable, statistical-parted, statistical-moderate}
-use Rattle.speed.proofs.statistical.Statement.{statement}
-use Rattle.speed.proofs.statistical.Tie as tie
+use Rattle.statistical.specs.Curves.{statistical-of}
+use Rattle.statistical.proofs.Rows.{row-fits}
+use Rattle.statistical.proofs.Statistics.{Averaged, averaged, kept, over-raisable, statistical-parted, statistical-moderate}
+use Rattle.statistical.proofs.statistical.Statement.{statement}
+use Rattle.statistical.proofs.statistical.Tie as tie
 
 average-is : (c : tie.After-average) → Averaged (kind-of (c .before .before .args .kind)) (deadweight-of (c .before .before .args .deadweight)) (c .average .result)
 average-is c = rw (c .average .ensures) (averaged _ _ (c .before .before .pre .1))

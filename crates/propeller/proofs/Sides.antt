@@ -12,8 +12,8 @@ use Rattle.power.specs.declared.Bounds.{Bounds}
 use Rattle.power.specs.Numbers.{unit}
 use Rattle.power.specs.Power.{BoundsPower, Power}
 use Rattle.power.proofs.Laws.{in-words, rescaled, inverted}
-use Rattle.speed.specs.declared.Split.{Split}
-use Rattle.speed.proofs.Products.{Product}
+use Rattle.propeller.specs.declared.Split.{Split}
+use Rattle.propeller.proofs.Products.{Product}
 
 -- The end of a pair on a side.
 abbrev pub at : Side → Bounds → ℕ

@@ -1,9 +1,9 @@
--- `speed::less_margin` meets its contract. Assumes nothing.
+-- `statistical::less_margin` meets its contract. Assumes nothing.
 use borrow.Author.Needs.{needs}
 use borrow.Author.Tests.{le-leb, lt-leb}
-use Rattle.speed.specs.Speeds.{less-margin-of}
-use Rattle.speed.proofs.less_margin.Statement.{statement}
-use Rattle.speed.proofs.less_margin.Tie as tie
+use Rattle.statistical.specs.Curves.{less-margin-of}
+use Rattle.statistical.proofs.less_margin.Statement.{statement}
+use Rattle.statistical.proofs.less_margin.Tie as tie
 
 returns : tie.Need-returns
 unfolding less-margin-of

@@ -1,14 +1,14 @@
--- `speed::row_of` meets its contract. Assumes nothing.
+-- `statistical::row_of` meets its contract. Assumes nothing.
 use Prim.Native.Nat.{ℕ, _≤_}
 use mathlib.Core.Path.{_≡_, sym, subst}
 use native.Mathlib.Omega.{arith}
 use borrow.Author.Needs.{needs}
 use Rattle.exact.specs.Index.{row}
 use Rattle.ship.specs.Figures.{kind-of}
-use Rattle.speed.specs.Speeds.{RowOf}
-use Rattle.speed.specs.declared.Row.{Row}
-use Rattle.speed.proofs.row_of.Statement.{statement}
-use Rattle.speed.proofs.row_of.Tie as tie
+use Rattle.statistical.specs.Curves.{RowOf}
+use Rattle.statistical.specs.declared.Row.{Row}
+use Rattle.statistical.proofs.row_of.Statement.{statement}
+use Rattle.statistical.proofs.row_of.Tie as tie
 
 -- The row of the type numbered n.
 filled : {k n : ℕ} {r : Row} → k ≡ n

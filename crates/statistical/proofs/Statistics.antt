@@ -21,12 +21,13 @@ use Rattle.power.specs.Numbers.{unit}
 use Rattle.power.specs.Power.{BoundsPower, Raisable, power-of, Power}
 use Rattle.power.proofs.Laws.{in-words, power-law}
 use Rattle.ship.specs.Accepted.{Within}
-use Rattle.speed.specs.declared.Split.{Split}
-use Rattle.speed.specs.Speeds.{pair, Parted, average-of, less-margin-of, statistical-of, Speed}
-use Rattle.speed.proofs.Products.{Product, product-is}
-use Rattle.speed.proofs.Rows.{row-fits, two-cuts, sized-within}
-use Rattle.speed.proofs.Sides.{at, some-at, power-at, farther, shape, Cubes, cubes, capped-root}
-use Rattle.speed.proofs.Reach.{spread, apart, slowest, fastest}
+use Rattle.propeller.specs.declared.Split.{Split}
+use Rattle.propeller.specs.Propeller.{pair, Parted, Speed}
+use Rattle.statistical.specs.Curves.{average-of, less-margin-of, statistical-of}
+use Rattle.propeller.proofs.Products.{Product, product-is}
+use Rattle.statistical.proofs.Rows.{row-fits, two-cuts, sized-within}
+use Rattle.propeller.proofs.Sides.{at, some-at, power-at, farther, shape, Cubes, cubes, capped-root}
+use Rattle.statistical.proofs.Reach.{spread, apart, slowest, fastest}
 
 -- ── V_avg ───────────────────────────────────────────────────────────────────────────────────
 

@@ -1,11 +1,11 @@
--- `speed::quotient_up` meets its contract: two roundings up are one. Assumes nothing.
+-- `propeller::quotient_up` meets its contract: two roundings up are one. Assumes nothing.
 use Prim.Native.Nat.{_^_, _≤_}
 use native.Mathlib.Nat.{mul-pos}
 use native.Mathlib.Omega.{arith}
 use borrow.Author.Needs.{needs}
 use Rattle.number.proofs.Divisions.{ceil-ceil, ceil-is, ceil-named, ceil-least}
-use Rattle.speed.proofs.quotient_up.Statement.{statement}
-use Rattle.speed.proofs.quotient_up.Tie as tie
+use Rattle.propeller.proofs.quotient_up.Statement.{statement}
+use Rattle.propeller.proofs.quotient_up.Tie as tie
 
 add-result : tie.Need-add-result
 add-result c =

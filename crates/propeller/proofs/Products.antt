@@ -11,8 +11,8 @@ use Rattle.number.proofs.Divisions.{floor-is, ceil-is}
 use Rattle.number.proofs.Gaps.{Gap, gap-product, gap-rounded}
 use Rattle.number.proofs.Ratios.{cube-root-of-is, root-low, root-high, root-near, root-least, root-most, units-some, units-few}
 use Rattle.power.specs.declared.Bounds.{Bounds}
-use Rattle.speed.specs.declared.Split.{Split}
-use Rattle.speed.specs.Speeds.{Parted, speed-from}
+use Rattle.propeller.specs.declared.Split.{Split}
+use Rattle.propeller.specs.Propeller.{Parted, speed-from}
 
 -- ── How near the two ends are ───────────────────────────────────────────────────────────────
 

@@ -1,10 +1,10 @@
--- `speed::quotient_down` meets its contract: two roundings down are one. Assumes nothing.
+-- `propeller::quotient_down` meets its contract: two roundings down are one. Assumes nothing.
 use native.Mathlib.Nat.{mul-pos}
 use native.Mathlib.Omega.{arith}
 use borrow.Author.Needs.{needs}
 use Rattle.number.proofs.Divisions.{floor-floor, floor-is, floor-named}
-use Rattle.speed.proofs.quotient_down.Statement.{statement}
-use Rattle.speed.proofs.quotient_down.Tie as tie
+use Rattle.propeller.proofs.quotient_down.Statement.{statement}
+use Rattle.propeller.proofs.quotient_down.Tie as tie
 
 returns : tie.Need-returns
 returns c =
