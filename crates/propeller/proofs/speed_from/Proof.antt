@@ -31,7 +31,7 @@ quotient-down-requires : tie.Need-quotient-down-requires
 quotient-down-requires c κs =
     let at = c .before .before .before .before .before in
     let p = at .before .pre .0 in
-    (le-trans (p .over-low) (p .over-order), p .over-high, lt-of-le-of-lt (fits at .0) (lit< tt), fits at .2)
+    (omega (arith, p .over-low, p .over-order), omega (arith, p .over-order, p .over-high), lt-of-le-of-lt (fits at .0) (lit< tt), fits at .2)
 
 mul-quotient-up : tie.Need-mul-quotient-up
 mul-quotient-up c = omega (arith, fits (c .before .before .before .before .before .before .before .before) .1)

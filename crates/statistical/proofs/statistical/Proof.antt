@@ -10,6 +10,15 @@ use Rattle.statistical.proofs.Statistics.{Averaged, averaged, kept, ove
 use Rattle.statistical.proofs.statistical.Statement.{statement}
 use Rattle.statistical.proofs.statistical.Tie as tie
 
+returns : tie.Need-returns
+unfolding statistical-of
+returns c =
+    let size = c .before .before .before in
+    let low = size .before .before in
+    let row = low .before .before .row-of .ensures in
+    rw (c .speed-from .ensures, low .less-margin .ensures, size .before .less-margin2 .ensures, low .before .average .ensures, c .before .before .power .ensures)
+    (rw (size .size .ensures, row .f-is, row .d-is))
+
 average-is : (c : tie.After-average) → Averaged (kind-of (c .before .before .args .kind)) (deadweight-of (c .before .before .args .deadweight)) (c .average .result)
 average-is c = rw (c .average .ensures) (averaged _ _ (c .before .before .pre .1))
 
@@ -51,15 +60,6 @@ speed-from-requires c κs =
     rw (low .less-margin .ensures, size .before .less-margin2 .ensures, low .before .average .ensures, c .before .power .ensures, size .size .ensures)
     (rw (row .row-of .ensures .f-is, row .row-of .ensures .d-is)
     (statistical-parted kind dwt (s .args .power) (s .pre .1) (s .pre .2), statistical-moderate kind dwt (s .args .power) (s .pre .1) (s .pre .2)))
-
-returns : tie.Need-returns
-unfolding statistical-of
-returns c =
-    let size = c .before .before .before in
-    let low = size .before .before in
-    let row = low .before .before .row-of .ensures in
-    rw (c .speed-from .ensures, low .less-margin .ensures, size .before .less-margin2 .ensures, low .before .average .ensures, c .before .before .power .ensures)
-    (rw (size .size .ensures, row .f-is, row .d-is))
 
 pub statistical-spec : {M : Type 1} → statement M
 statistical-spec =
