@@ -1,4 +1,4 @@
--- The propeller law: a speed times the cube root of a ratio of powers, as a pair.
+-- The propeller law: a speed times the cube root of a ratio of powers, as a pair, by a name that each method keeps shut.
 -- Assumes nothing.
 use Prim.Native.Nat.{ℕ, _+_, _*_, _/_, _^_, _≤_}
 use Rattle.formula.specs.Formula.{_//_, Formula, Enclosed}

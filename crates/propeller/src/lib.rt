@@ -30,7 +30,7 @@ fn quotient_up(x: u64, w: u64, m: u64) -> u64
     (q + (m - 1)) / m
 }
 
-// The shape that methods 2 to 4 share: base / over times the cube root of n / d.
+// The shape that methods 2 to 4 share: base / over times the cube root of n / d. Each method shows that its parts are in bounds.
 pub fn speed_from(s: Split, n: u64, d: u64) -> Bounds
     requires { ⌜ Parted s × Moderate n d ⌝ }
     ensures { λ r. ⌜ r ≡ speed-from s n d ⌝ }

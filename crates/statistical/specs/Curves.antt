@@ -1,4 +1,4 @@
--- The speed of method 4 as a pair.
+-- The speed of method 4 as a pair, by a name that `speed` keeps shut.
 -- Assumes nothing.
 use mathlib.Core.Path.{_≡_}
 use Prim.Native.Nat.{ℕ, _+_, _-_, _*_, _/_}
@@ -11,6 +11,7 @@ use Rattle.power.specs.Power.{power-of}
 use Rattle.propeller.specs.Propeller.{pair, speed-from}
 use Rattle.statistical.specs.declared.Row.{Row}
 
+-- A row of the table as the code has it.
 pub record RowOf (kind : Kind) (r : Row) : Type 0 where
   pub a-is : r .a ≡ row kind .A
   pub c-is : r .c ≡ row kind .C

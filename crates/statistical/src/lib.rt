@@ -81,7 +81,7 @@ fn less_margin(v: u64) -> u64
     }
 }
 
-// Method 4; the power is the sum of P_ME in 1/100 kW.
+// Method 4; the power is the sum of P_ME in 1/100 kW. Rules 5, 6 and 9 bound type, deadweight and power.
 pub fn statistical(kind: u64, deadweight: Deadweight, power: u64) -> Bounds
     requires { ⌜ Listed kind × Within 100 600000 (deadweight .tonnes) × Within 7500 36000000 power ⌝ }
     ensures { λ r. ⌜ r ≡ statistical-of (kind-of kind) (deadweight-of deadweight) power ⌝ }
