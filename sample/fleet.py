@@ -13,6 +13,7 @@ HERE = pathlib.Path(__file__).resolve().parent
 TYPES = ["bulk", "gas", "tanker", "container", "reefer", "combination", "vehicle"]
 FUELS = ["diesel", "light", "heavy", "propane", "butane", "lng", "methanol", "ethanol"]
 SOURCES = ["test", "maker"]
+ICE_CLASSES = {"-": 0, "IA Super": 1, "IA": 1, "IB": 2, "IC": 2}
 CUT = 200
 
 
@@ -73,7 +74,7 @@ def block(row):
     aux_method, table_power = (1, 0) if aux == "rule" else (2, int(aux.split()[1]))
     data = struct.pack("<HBBIIIIIIII", 1, TYPES.index(kind) + 1, method, int(imo), int(deadweight), number(gross_tonnage),
                        number(volume), low, high, trial_power, trial_deadweight)
-    data += struct.pack("<BBBBIHHB3x", aux_method, ice == "ice", len(engines), source, table_power, sfc_low, sfc_high, fuel)
+    data += struct.pack("<BBBBIHHB3x", aux_method, ICE_CLASSES[ice], len(engines), source, table_power, sfc_low, sfc_high, fuel)
     data = (data + b"".join(engines)).ljust(508, b"\0")
     data += check(data)
     if sent == "damaged":

@@ -1,6 +1,6 @@
 #!/usr/bin/env python3
 """Cases for the programs `files` and `fleet`, from the rules alone (docs/RULES.md): the block's table, the table of refusals, the
-writer, and the whole output that it states for `fleet`.
+writer, and what `fleet` prints for ship S in each ice class.
 
     tests/blocks.py            writes stdin and stdout of the programs
     tests/blocks.py --check    says whether the stored ones are these
@@ -95,7 +95,7 @@ def refusal(piece):
             return 10
     if not (f["aux_method"] == 1 and f["table_power"] == 0 or f["aux_method"] == 2 and 1 <= f["table_power"] <= 50000):
         return 11
-    if f["ice"] > 1:
+    if f["ice"] not in (0, 1, 2):
         return 12
     method, ends = f["method"], (f["speed_low"], f["speed_high"])
     if method not in (1, 2, 3, 4) or method == 3 and f["type"] not in (1, 3, 4):
@@ -258,8 +258,8 @@ for ship, low, high, fuel, source in [(S, "aux_low", "aux_high", "aux_fuel", "au
 for method, power, wanted in ((0, 0, 11), (1, 0, 0), (1, 1, 11), (2, 0, 11), (2, 1, 0), (2, 50000, 0), (2, 50001, 11), (3, 0, 11), (3, 500, 11)):
     case(wanted, block(S, aux_method=method, table_power=power))
 
-# 12: ice
-for ice, wanted in ((0, 0), (1, 0), (2, 12), (255, 12)):
+# 12: ice class above 2
+for ice, wanted in ((0, 0), (1, 0), (2, 0), (3, 12), (255, 12)):
     case(wanted, block(S, ice=ice))
 
 # 13: method and speed
@@ -330,7 +330,7 @@ case(16, block(S, mcr_low1=2, mcr_high1=1))  # an unused entry has no order
 
 # The order: a block that breaks rule n and every later one
 faults = [(4, {"imo": 9074728}), (5, {"type": 8}), (6, {"deadweight": 99}), (7, {"gross": 1}), (8, {"volume": 99}), (9, {"mcr_low0": 99}),
-          (10, {"fuel0": 9}), (11, {"aux_method": 3}), (12, {"ice": 2}), (13, {"speed_high": 6001}), (14, {"aux_low": 2001}),
+          (10, {"fuel0": 9}), (11, {"aux_method": 3}), (12, {"ice": 3}), (13, {"speed_high": 6001}), (14, {"aux_low": 2001}),
           (15, {"trial_power": 1}), (16, {"bytes": {132: 1}})]
 for i, (number, _) in enumerate(faults):
     broken = {}
@@ -376,15 +376,37 @@ for number in (2 ** 55 - 1, 2 ** 55, 2 ** 55 + 1, 2 ** 56, 2 ** 63, 2 ** 64 - 1)
     write(2048, number, block(S), 17)
 write(2048, 1, bytes(512), 4)
 write(0, 1, bytes(512), 4)
-write(2048, 2 ** 64 - 1, block(S, ice=2), 4)
+write(2048, 2 ** 64 - 1, block(S, ice=3), 4)
+
+# ── Lines of `fleet` ─────────────────────────────────────────────────────────────────────────────
+
+INDEX = (6000 * 180 * Fraction("3.114") + 400 * 200 * Fraction("3.206")) / (50000 * 14)  # of S: g/h over t × knots
+F_M = {0: 1, 1: Fraction("1.05"), 2: 1}  # none, IA Super or IA, IB or IC
+lines = []
+
+
+def line(piece, wanted):
+    """A refused piece, or ship S in one of the ice classes: her index in millionths, rounded down and up."""
+    answer = f"refused {refusal(piece)}"
+    if refusal(piece) == 0:
+        millionths = INDEX / F_M[piece[37]] * 10 ** 6
+        answer = f"9074729 {millionths // 1} {-(-millionths // 1)}"
+    assert answer == wanted, (len(lines), wanted, answer)
+    lines.append((piece, f"{len(lines)} {wanted}\n"))
+
+
+line(block(S), "9074729 5170857 5170858")
+line(bytes(512), "refused 2")
+for ice, wanted in ((1, "9074729 4924625 4924626"), (2, "9074729 5170857 5170858"), (3, "refused 12"), (255, "refused 12")):
+    line(block(S, ice=ice), wanted)
 
 # ── Stored ───────────────────────────────────────────────────────────────────────────────────────
 
 MADE = {
     "files/stdin": b"".join(given for given, _ in writes),
     "files/stdout": "".join(line for _, line in writes).encode(),
-    "fleet/stdin": block(S) + bytes(512),
-    "fleet/stdout": b"0 9074729 5170857 5170858\n1 refused 2\n",
+    "fleet/stdin": b"".join(piece for piece, _ in lines),
+    "fleet/stdout": "".join(text for _, text in lines).encode(),
 }
 given = {wanted for wanted, _ in cases}
 assert given == set(range(17)), given

@@ -111,7 +111,7 @@ fn break_rule(block: &mut Block, random: &mut Random, rule: u64) {
         9 => break_engine(block, random),
         10 => break_consumption(block, random),
         11 => break_auxiliary(block, random),
-        12 => put(block, ICE, random.pick(&[2, 3, 255])),
+        12 => put(block, ICE, random.pick(&[3, 4, 255])),
         13 => break_speed(block, random),
         14 => break_range(block, random),
         15 => break_trial(block, random),

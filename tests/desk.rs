@@ -229,7 +229,7 @@ pub fn read(block: &[u8]) -> Result<Ship, u8> {
     keep((1..=4).contains(&ship.engines) && ship.used().iter().all(Engine::power_is_right), 9)?;
     keep(ship.auxiliary.consumption_is_right() && ship.used().iter().all(Engine::consumption_is_right), 10)?;
     keep(matches!((ship.aux_method, ship.table_power), (1, 0) | (2, 1..=50_000)), 11)?;
-    keep(ship.ice <= 1, 12)?;
+    keep(ship.ice <= 2, 12)?;
     keep(speed_is_right(&ship), 13)?;
     keep(ranges_are_right(&ship), 14)?;
     keep(trial_is_right(&ship), 15)?;
@@ -243,7 +243,7 @@ fn emissions(ship: &Ship, end: usize) -> u64 {
     main + ship.aux_power(end) * ship.auxiliary.emission(end, 2_150)
 }
 
-// 1.05 or 1, in hundredths.
+// f_m in hundredths: IA Super and IA, class 1, have 1.05; IB and IC, class 2, have 1 as a ship without a class has.
 fn ice_factor(ship: &Ship) -> u64 {
     if ship.ice == 1 { 105 } else { 100 }
 }

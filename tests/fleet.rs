@@ -88,6 +88,9 @@ fn figures(program: &[String]) {
     }
     let blocks = [
         (like_s(&|block| put(block, ICE, 1)), "9074729 4924625 4924626"),
+        (like_s(&|block| put(block, ICE, 2)), "9074729 5170857 5170858"),
+        (like_s(&|block| put(block, ICE, 3)), "refused 12"),
+        (like_s(&|block| put(block, ICE, 255)), "refused 12"),
         (like_s(&|block| put_consumption(block, 0, [0, 0], 0, 3)), "9074729 5437771 5437772"),
         (s_with_ranges(), "9074729 5037400 5362371"),
         (like_s(&|block| put_consumption(block, 0, [0, 0], 3, 1)), "refused 10"),
@@ -97,7 +100,7 @@ fn figures(program: &[String]) {
     let mut bytes: Vec<u8> = blocks.iter().flat_map(|(block, _)| block.to_vec()).collect();
     bytes.extend(&ship_s()[..511]);
     let mut right: String = blocks.iter().enumerate().map(|(number, (_, line))| format!("{} {}\n", number, line)).collect();
-    right += "6 refused 1\n";
+    right += &format!("{} refused 1\n", blocks.len());
     let text = or_fail("the figures", program::by_pipe(program, &bytes, None).whole());
     if text != right {
         fail(&format!("the figures should be\n{}but are\n{}", right, text));
@@ -153,6 +156,7 @@ fn blocks(random: &mut Random) -> Vec<Block> {
 struct Count {
     accepted: [[u64; 5]; 8],
     light: [[u64; 5]; 8],
+    ice: [u64; 3],
     whole: u64,
     exact: u64,
     near: u64,
@@ -170,6 +174,7 @@ impl Count {
         let (kind, method) = (ship.kind as usize, ship.method as usize);
         self.accepted[kind][method] += 1;
         self.light[kind][method] += ship.has_light_cargo() as u64;
+        self.ice[ship.ice as usize] += 1;
         if let Answer::Exact { lower, upper, .. } = answer {
             self.whole += (lower == upper) as u64;
         }
@@ -190,6 +195,9 @@ impl Count {
                 want(format!("light cargo, type {} method {}", kind, method), self.light[kind as usize][method as usize], 500);
             }
         }
+        for class in 0..3 {
+            want(format!("ice class {}", class), self.ice[class], 15_000);
+        }
         for rule in 1..17 {
             want(format!("refusal {}", rule), self.refused[rule], 500);
         }
@@ -207,6 +215,7 @@ impl Count {
         let light: u64 = self.light.iter().flatten().sum();
         println!("fleet: exact {} and ranged {}, {} of them whole", self.exact, self.exact_ranged, self.whole);
         println!("fleet: near {} and ranged {}; light cargo {}", self.near, self.near_ranged, light);
+        println!("fleet: ice classes 0, 1 and 2 accepted: {:?}", self.ice);
         let refused: Vec<String> = (1..17).map(|rule| format!("{}: {}", rule, self.refused[rule])).collect();
         println!("fleet: refused by {}", refused.join(", "));
     }
@@ -289,6 +298,24 @@ fn same_elsewhere(program: &[String], all: &[Block], lines: &[String], count: &m
     wrong
 }
 
+// IB and IC (2) have f_m 1, as a ship without a class (0) has: in either the same ship gets the very same words.
+fn same_in_class_2(program: &[String], all: &[Block], count: &mut Count) -> usize {
+    let accepted = |of: (u64, u64)| {
+        all.iter().filter(move |block| (get(block, TYPE), get(block, METHOD)) == of && desk::read(&block[..]).is_ok()).take(100)
+    };
+    let ships: Vec<Block> = kinds().into_iter().flat_map(accepted).cloned().collect();
+    let mut lines_in = |class: u64| {
+        let mut blocks = ships.clone();
+        blocks.iter_mut().for_each(|block| { put(block, ICE, class); seal(block) });
+        run(program, &format!("ice class {}", class), &bytes_of(&blocks), How::Pipe, count)
+    };
+    let ((without, wrong), (with, faults)) = (lines_in(0), lines_in(2));
+    if let Some((right, line)) = without.iter().zip(&with).find(|(right, line)| right != line) {
+        fail(&format!("in ice class 2 a ship is answered '{}', without a class '{}'", line, right));
+    }
+    wrong + faults
+}
+
 // A last piece of each length from 1 to 511, alone or after ship S; two runs at a time.
 fn tails(program: &[String]) -> Vec<String> {
     let part = |program: Vec<String>, parity: usize| spawn(move || {
@@ -331,10 +358,11 @@ fn self_check() {
             fail(&format!("the reference is wrong about {}", name));
         }
     }
+    let ic = like_s(&|block| put(block, ICE, 2));
     let light = like_s(&|block| put(block, CARGO_VOLUME, 100_000));
     let mut ranged = s_with_ranges();
     put(&mut ranged, CARGO_VOLUME, 100_000);
-    let answers: Vec<Answer> = [ship_s(), light, sealed(ranged), [0; BLOCK]].iter().map(|block| desk::answer(block)).collect();
+    let answers: Vec<Answer> = [ic, light, sealed(ranged), [0; BLOCK]].iter().map(|block| desk::answer(block)).collect();
     let (slips, missed) = hold::uncaught(&answers);
     if !missed.is_empty() {
         fail(&format!("not caught: {}", missed.join(", ")));
@@ -358,6 +386,7 @@ fn main() {
     let (lines, mut wrong) = all_lines(&program, &all, &mut count);
     if wrong == 0 {
         wrong += same_elsewhere(&program, &all, &lines, &mut count);
+        wrong += same_in_class_2(&program, &all, &mut count);
     }
     reader_gone(&program, &all);
     let short = tails(&program);

@@ -89,6 +89,7 @@ fn line_slips(lines: &[String]) -> Vec<(&'static str, usize, String)> {
         ("exact lower one more", 0, moved(exact, 2, 1)),
         ("exact upper one less", 0, moved(exact, 3, -1)),
         ("exact upper one more", 0, moved(exact, 3, 1)),
+        ("the 1.05 of IA for an IC ship", 0, "0 9074729 4924625 4924626".to_string()),
         ("another IMO number", 0, moved(exact, 1, 1)),
         ("another block number", 0, moved(exact, 0, 1)),
         ("two spaces", 0, exact.replacen(' ', "  ", 1)),
@@ -115,6 +116,7 @@ fn joined(lines: &[String]) -> String {
 }
 
 // The names of the slips that were not caught; `answers` are an exact one, a near one, a ranged near one and a refusal.
+// The exact one is ship S in ice class 2.
 pub fn uncaught(answers: &[Answer]) -> (usize, Vec<&'static str>) {
     let lines: Vec<String> = answers.iter().enumerate().map(|(number, answer)| line(number, *answer)).collect();
     let mut slips: Vec<(&'static str, String)> = Vec::new();

@@ -216,7 +216,7 @@ pub fn draw(random: &mut Random, kind: u64, method: u64, ranged: bool) -> Block 
     draw_size(&mut block, random);
     draw_engines(&mut block, random, ranged);
     draw_speed(&mut block, random, ranged);
-    put(&mut block, ICE, random.one_in(4) as u64);
+    put(&mut block, ICE, random.pick(&[1, 0, 0, 2]));
     put(&mut block, AUX_METHOD, 1);
     if random.one_in(3) {
         put(&mut block, AUX_METHOD, 2);

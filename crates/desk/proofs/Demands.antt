@@ -1,13 +1,14 @@
 -- The three demands. A surveyor who wants to know what the desk promises reads the statements of this file; `bounds` and
 -- `bounds_of_block` answer `answer-of` and `answer-of-block`, for every record and every slice of bytes.
 -- Assumes nothing.
-use Prim.Native.Nat.{ℕ, _+_, _*_, _^_, _≤_, _<_}
+use Prim.Native.Nat.{ℕ, zero, suc, _+_, _*_, _^_, _≤_, _<_}
 use mathlib.Core.Path.{_≡_, refl, sym, ap, _∙_}
 use mathlib.Core.List.{List, _∷_}
 use native.Mathlib.Nat.{lt-of-le-of-lt}
 use native.Mathlib.Omega.{arith}
 use lib.ListN.{length}
-use borrow.Author.Tests.{ne-eqb}
+use lib.Dec.{eqb}
+use borrow.Author.Tests.{ne-eqb, lt-ltb, ltb-true}
 use mathlib.Core.Logic.{_↔_}
 use mir.Val.{Val}
 use denote.Shadow.{shadow}
@@ -15,13 +16,13 @@ use denote.Struct.Declared.{row}
 use Rattle.formula.specs.Formula.{_//_, Formula, below, above, bounds, Enclosed}
 use Rattle.exact.specs.Ship.{declared, Figures}
 use Rattle.exact.specs.Ranges.{Range, low, high, Inside, Narrowed, Stands-for, most-favourable, least-favourable}
-use Rattle.formula.specs.Words.{whole}
-use Rattle.exact.specs.Index.{f-c, speed, index}
+use Rattle.formula.specs.Words.{whole, if}
+use Rattle.exact.specs.Index.{f-c, f-m, speed, index}
 use Rattle.formula.proofs.Formulas.{consistent}
 use Rattle.exact.proofs.Favour.{stands-most, stands-least, inside-enclosed, ship-inside, low-inside, high-inside}
-use Rattle.ship.specs.Figures.{figures}
+use Rattle.ship.specs.Figures.{figures, ice-of}
 use Rattle.ship.specs.Refusals.{number-of, First, given}
-use Rattle.ship.specs.Rules.{tests, refusal-of}
+use Rattle.ship.specs.Rules.{tests, refusal-of, ice-refused}
 use Rattle.ship.specs.Accepted.{Accepted-figures}
 use Rattle.ship.specs.declared.Refusal.{Refusal}
 use Rattle.ship.specs.declared.Refusal.the-variants.{None, Length}
@@ -227,3 +228,20 @@ value-accepted s vs g e = record { entries = four s vs g; none = e }
 pub block-record-accepted : (b : List ℕ) → read-refusal b ≡ None → Accepted-record (read-of b .ship)
 unfolding read-of ship-in ship-from
 block-record-accepted b e = record { entries = rw e; none = block-accepted b e }
+
+-- ── Ice classes: document 02, Req 01 ────────────────────────────────────────────────────────
+
+-- Stored ones keep their figure: 0 and 1, the two that were taken, are taken still, with the f_m that they had.
+pub ice-kept : (ice : ℕ) → ice ≤ 1 → (ice-refused ice ≡ false) × (f-m (ice-of ice) ≡ if (eqb ice 1) 105 100)
+unfolding f-m
+ice-kept zero h = (refl, refl)
+ice-kept (suc zero) h = (refl, refl)
+ice-kept (suc (suc ice)) h = absurd (omega (arith, h))
+
+-- 2, IB or IC, has f_m 1 as a ship without an ice class has; refusal 12 is given above 2.
+pub ice-added : f-m (ice-of 2) ≡ f-m (ice-of 0)
+unfolding f-m
+ice-added = refl
+
+pub ice-above : (ice : ℕ) → ice-refused ice ≡ true ↔ 2 < ice
+ice-above ice = (ltb-true 2 ice, lt-ltb 2 ice)

@@ -127,6 +127,6 @@ pub load-within : (s : Particulars) → Within 100 600000 (s .deadweight .tonnes
 unfolding load-of
 load-within s w =
     let c = Capacity-between (s .kind) (s .deadweight) in
-    let f = f-m-between s in
+    let f = f-m-between (s .ice) in
     let k : Within 7000 60000000 (Capacity (s .kind) (s .deadweight)) = record { least = omega (arith, w .least, c .0); most = omega (arith, w .most, c .1) } in
     product-within k (record { least = f .0; most = f .1 })

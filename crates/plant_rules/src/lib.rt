@@ -80,7 +80,7 @@ fn auxiliary_broken(method: u64, power: u64) -> bool
 fn ice_broken(ice: u64) -> bool
     ensures { λ r. ⌜ r ≡ ice-refused ice ⌝ }
 {
-    1 < ice
+    2 < ice
 }
 
 // Rule 13.

@@ -35,7 +35,7 @@ fuel-of n =
 
 -- Ice classes by number, from 0.
 abbrev pub ice-classes : List exact.IceClass
-ice-classes = exact.no-ice-class ∷ exact.ice-classed ∷ []
+ice-classes = exact.no-ice-class ∷ exact.IA-Super-or-IA ∷ exact.IB-or-IC ∷ []
 
 abbrev pub last-ice : ℕ
 last-ice = length ice-classes - 1
