@@ -14,7 +14,7 @@ use mir.Val.{Val}
 use denote.Shadow.{shadow}
 use denote.Struct.Declared.{row}
 use Rattle.formula.specs.Formula.{_//_, Formula, below, above, bounds, Enclosed}
-use Rattle.exact.specs.Ship.{declared, Figures}
+use Rattle.exact.specs.Ship.{declared, IB-or-IC, Figures}
 use Rattle.exact.specs.Ranges.{Range, low, high, Inside, Narrowed, Stands-for, most-favourable, least-favourable}
 use Rattle.formula.specs.Words.{whole, if}
 use Rattle.exact.specs.Index.{f-c, f-m, speed, index}
@@ -238,10 +238,10 @@ ice-kept zero h = (refl, refl)
 ice-kept (suc zero) h = (refl, refl)
 ice-kept (suc (suc ice)) h = absurd (omega (arith, h))
 
--- 2, IB or IC, has f_m 1 as a ship without an ice class has; refusal 12 is given above 2.
-pub ice-added : f-m (ice-of 2) ≡ f-m (ice-of 0)
+-- 2 is IB or IC, whose f_m is 1; refusal 12 is given above 2.
+pub ice-added : (ice-of 2 ≡ IB-or-IC) × (f-m IB-or-IC ≡ 100)
 unfolding f-m
-ice-added = refl
+ice-added = (refl, refl)
 
 pub ice-above : (ice : ℕ) → ice-refused ice ≡ true ↔ 2 < ice
 ice-above ice = (ltb-true 2 ice, lt-ltb 2 ice)
