@@ -15,6 +15,7 @@ use denote.Struct.Declared.{row}
 use Rattle.formula.specs.Words.{if}
 use Rattle.fields.specs.Numbers.{Bytes}
 use Rattle.fields.proofs.Numbers.{bytes-take, bytes-drop}
+use Rattle.ship.specs.Record.{Entries}
 use Rattle.ship.specs.Refusals.{number-of, First, first-of}
 use Rattle.ship.specs.Rules.{tests, refusal-of}
 use Rattle.ship.specs.declared.Ship.{Ship}
@@ -23,7 +24,7 @@ use Rattle.ship.specs.declared.Refusal.the-variants.{None, Length, NoBlock}
 use Rattle.ship.proofs.Order.{first-is, first-one, none, or-else, own-none}
 use Rattle.ship.proofs.Right.{after-own}
 use Rattle.ship.proofs.Ship.{the-type}
-use Rattle.ship.proofs.Typed.{four}
+use Rattle.ship.proofs.Typed.{all-entries}
 use Rattle.layout.specs.Layout.{encode, ship-in, empty-ship}
 use Rattle.block.specs.Answers.{length-refused, block-tests, read-refusal, loaded, read-of, no-block, write-refusal, write-of}
 use Rattle.layout.proofs.Codec.{encode-length}
@@ -53,12 +54,12 @@ refused-empty b h = rw (ne-eqb (number-of (read-refusal b)) 0 (λ e. h (none (re
 -- ── There and back ──────────────────────────────────────────────────────────────────────────
 
 -- A ship that is accepted, written to a block and read back is the same ship.
-pub same-ship : (s : Ship) → length (s .engines) ≡ 4 → refusal-of s ≡ None → read-of (encode s) ≡ loaded None s
+pub same-ship : (s : Ship) → Entries s → refusal-of s ≡ None → read-of (encode s) ≡ loaded None s
 same-ship = read-back
 
--- Of a value of the type `Ship`, which has four entries, nothing else need be known.
+-- Of a value of the type `Ship`, which has its entries, nothing else need be known.
 pub same-ship-value : (s : Ship) (vs : List Val) → shadow (row the-type .own s vs) → refusal-of s ≡ None → read-of (encode s) ≡ loaded None s
-same-ship-value s vs g = read-back s (four s vs g)
+same-ship-value s vs g = read-back s (all-entries s vs g)
 
 -- A block that is accepted, written again, has the same bytes.
 pub same-bytes : (b : List ℕ) → Bytes b → read-refusal b ≡ None → encode (read-of b .ship) ≡ b
@@ -103,8 +104,8 @@ module _ (f : List ℕ) (n : ℕ) (s : Ship) where
     pub block-written : block-of (write-of f n s) n ≡ encode s
     block-written = rw from-block (take-at (encode s) (drop (n * 512 + 512) f) 512 (encode-length s))
 
-    pub ship-written : length (s .engines) ≡ 4 → read-of (block-of (write-of f n s) n) ≡ loaded None s
-    ship-written four = ap read-of block-written ∙ read-back s four (accepted-parts e .0)
+    pub ship-written : Entries s → read-of (block-of (write-of f n s) n) ≡ loaded None s
+    ship-written whole = ap read-of block-written ∙ read-back s whole (accepted-parts e .0)
 
     before-stands : take (n * 512) (write-of f n s) ≡ take (n * 512) f
     before-stands = rw (written e) (take-at (take (n * 512) f) _ (n * 512) front)

@@ -12,7 +12,7 @@ use Rattle.ship.specs.Refusals.{number-of, first-of}
 use Rattle.ship.specs.Rules.{nonzero, tests}
 use Rattle.ship.specs.declared.Ship.{Ship}
 use Rattle.ship.specs.declared.Refusal.{Refusal}
-use Rattle.ship.specs.declared.Refusal.the-variants.{None, Length, Check, Layout, NoBlock}
+use Rattle.ship.specs.declared.Refusal.the-variants.{None, Length, Check, NoBlock}
 use Rattle.layout.specs.Layout.{encode, numbers-in, ship-in, empty-ship}
 use Rattle.block.specs.declared.Loaded.{Loaded}
 
@@ -26,23 +26,19 @@ length-refused b = not (eqb (length b) 512)
 unfoldable pub check-refused : List ℕ → Bool
 check-refused b = not (eqb (number-at b 508 2) (sums 1 0 (take 508 b) .a)) || not (eqb (number-at b 510 2) (sums 1 0 (take 508 b) .b))
 
--- 3: layout not 1.
-unfoldable pub layout-refused : List ℕ → Bool
-layout-refused b = not (eqb (getD (numbers-in b) 0 0) 1)
+-- Bytes 141–143 and 188–507, which no field has yet.
+abbrev pub rest-refused : List ℕ → Bool
+rest-refused ns = nonzero (getD ns 55 0) || nonzero (getD ns 75 0)
 
--- Of bytes 132–507 all that no field has must be zero.
-abbrev pub newer-refused : List ℕ → Bool
-newer-refused ns = nonzero (getD ns 52 0)
-
--- 16: a byte that must be zero isn't: one of 49–51, of the last two of an engine entry, or of 132–507.
+-- 16: a byte that must be zero isn't: one of 49–51, of the last two of an engine entry, of 141–143, or of 188–507.
 unfoldable pub zeros-refused : List ℕ → Bool
 zeros-refused b =
     let n = getD (numbers-in b) in
-    nonzero (n 19 0) || nonzero (n 27 0) || nonzero (n 35 0) || nonzero (n 43 0) || nonzero (n 51 0) || newer-refused (numbers-in b)
+    nonzero (n 19 0) || nonzero (n 27 0) || nonzero (n 35 0) || nonzero (n 43 0) || nonzero (n 51 0) || rest-refused (numbers-in b)
 
 -- The tests of 512 bytes with the record s, in order of checking.
 unfoldable pub block-tests : List ℕ → Ship → List (Bool × Refusal)
-block-tests b s = (check-refused b, Check) ∷ (layout-refused b, Layout) ∷ tests (zeros-refused b) s
+block-tests b s = (check-refused b, Check) ∷ tests (zeros-refused b) s
 
 -- The first refusal of bytes, or none.
 unfoldable pub read-refusal : List ℕ → Refusal

@@ -13,7 +13,7 @@ ghost use Rattle.fields.specs.Numbers.{number-at};
 ghost use Rattle.ship.specs.Refusals.{first-of};
 ghost use Rattle.ship.specs.Rules.{nonzero};
 ghost use Rattle.layout.specs.Layout.{numbers-in};
-ghost use Rattle.block.specs.Answers.{check-refused, newer-refused, zeros-refused, block-tests};
+ghost use Rattle.block.specs.Answers.{check-refused, rest-refused, zeros-refused, block-tests};
 
 // Whether a check differs.
 fn check_broken(block: &[u8]) -> bool
@@ -35,11 +35,11 @@ fn not_zero(block: &[u8], at: usize, end: usize) -> bool
 }
 
 // Whether one of the bytes from 132 on that no field has isn't zero.
-fn newer_broken(block: &[u8]) -> bool
+fn rest_broken(block: &[u8]) -> bool
     requires { ⌜ length (now block) ≡ 512 ⌝ }
-    ensures { λ r. ⌜ r ≡ newer-refused (numbers-in (now (block .entry))) ⌝ }
+    ensures { λ r. ⌜ r ≡ rest-refused (numbers-in (now (block .entry))) ⌝ }
 {
-    not_zero(block, 132, 508)
+    not_zero(block, 141, 144) | not_zero(block, 188, 508)
 }
 
 // Whether a byte that must be zero isn't.
@@ -52,7 +52,7 @@ fn zeros_broken(block: &[u8]) -> bool
         | not_zero(block, 90, 92)
         | not_zero(block, 110, 112)
         | not_zero(block, 130, 132)
-        | newer_broken(block)
+        | rest_broken(block)
 }
 
 // The first rule that a block and the record that stands in it break, or none.
@@ -61,6 +61,5 @@ pub(crate) fn block_refusal(block: &[u8], ship: Ship) -> Refusal
     ensures { λ r. ⌜ r ≡ first-of (block-tests (now (block .entry)) ship) Refusal.None ⌝ }
 {
     let own = first_broken(zeros_broken(block), ship);
-    let layout = first(number_at(block, 0, 2) != 1, Refusal::Layout, own);
-    first(check_broken(block), Refusal::Check, layout)
+    first(check_broken(block), Refusal::Check, own)
 }

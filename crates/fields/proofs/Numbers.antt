@@ -10,7 +10,7 @@ use native.Mathlib.Omega.{arith}
 use borrow.Author.Tests.{ne-eqb}
 use lib.Dec.{eqb, lit<}
 use lib.ListN.{length, getD, take, drop, set, length-drop, drop-of-length-le}
-use lib.Seq.{drop-cons, length-take-le, take-suc-set, take-all}
+use lib.Seq.{drop-cons, drop-drop, length-take-le, take-add, take-suc-set, take-all}
 use Rattle.fields.specs.Numbers.{bytes-of, value-of, number-at, Bytes}
 
 pub bytes-of-length : (w n : ℕ) → length (bytes-of w n) ≡ w
@@ -129,6 +129,20 @@ zero-step z xs i h =
 pub zero-end : (z : Bool) (xs : List ℕ) (i : ℕ) → length xs ≤ i → z && eqb (value-of (drop i xs)) 0 ≡ z
 unfolding value-of
 zero-end z xs i h = rw (drop-of-length-le xs h) (and-true z)
+
+-- Where a number is 0, so are its bytes in front and those behind.
+zero-parts : (xs ys : List ℕ) → value-of (xs ++ ys) ≡ 0 → (value-of xs ≡ 0) × (value-of ys ≡ 0)
+unfolding value-of
+zero-parts [] ys h = (refl, h)
+zero-parts (x ∷ xs) ys h =
+    let k = zero-parts xs ys (omega arith) in
+    (omega (arith, k .0), k .1)
+
+pub zero-split : (b : List ℕ) (at n m : ℕ) → number-at b at (n + m) ≡ 0 → (number-at b at n ≡ 0) × (number-at b (at + n) m ≡ 0)
+unfolding number-at
+zero-split b at n m h =
+    let k = zero-parts (take n (drop at b)) (take m (drop n (drop at b))) (rw (take-add n m (drop at b)) at h) in
+    (k .0, rw (drop-drop n at b) at (k .1))
 
 -- ── A number stored byte by byte ────────────────────────────────────────────────────────────
 

@@ -2,7 +2,7 @@
 -- Assumes nothing.
 use Prim.Native.Nat.{ℕ, _+_, _-_, _^_, _≤_, _<_}
 use mathlib.Core.Path.{_≡_, refl, sym, ap, ap₂, _∙_}
-use mathlib.Core.List.{List, [], _∷_, _++_, append-assoc, append-nil}
+use mathlib.Core.List.{List, [], _∷_, _++_, map, append-assoc, append-nil}
 use native.Mathlib.Numerals.{add-one}
 use native.Mathlib.Omega.{arith}
 use borrow.Rule.Slice.PartMut.{midOf, putMid}
@@ -10,7 +10,7 @@ use lib.ListN.{length, getD, take, drop, length-append, drop-of-length-le}
 use lib.Seq.{drop-cons, take-at, drop-at, take-add, take-all, drop-drop}
 use Rattle.fields.specs.Numbers.{bytes-of, value-of, number-at, Bytes}
 use Rattle.fields.specs.Runs.{pack, numbers-at, total, widths-of, numbers-of, packed}
-use Rattle.fields.proofs.Numbers.{bytes-of-length, value-bytes, bytes-number}
+use Rattle.fields.proofs.Numbers.{bytes-of-length, value-bytes, bytes-number, zero-split}
 use Rattle.fields.proofs.Parts.{taken, next-part, bytes-part}
 
 -- ── A run, field by field ───────────────────────────────────────────────────────────────────
@@ -101,3 +101,13 @@ then-run fs gs d at w {part} {ys} n e y = rw (packed-append fs gs, ← y) (next-
 pub run-written : (fs : List (ℕ × ℕ)) (d : List ℕ) {y : List ℕ} → length d ≡ total (widths-of fs) → y ≡ packed fs ++ drop (total (widths-of fs)) d
     → y ≡ packed fs
 run-written fs d n e = e ∙ rw (drop-of-length-le d {i = total (widths-of fs)} (omega arith)) (append-nil (packed fs))
+
+-- ── A run of zeros ──────────────────────────────────────────────────────────────────────────
+
+-- Each number that stands in zero bytes is 0.
+pub zero-run : (b : List ℕ) (at : ℕ) (ws : List ℕ) → number-at b at (total ws) ≡ 0 → numbers-at b at ws ≡ map (λ w. 0) ws
+unfolding numbers-at total
+zero-run b at [] h = refl
+zero-run b at (w ∷ ws) h =
+    let k = zero-split b at w (total ws) h in
+    ap₂ {C = List ℕ} (λ y ys. y ∷ ys) (k .0) (zero-run b (at + w) ws (k .1))

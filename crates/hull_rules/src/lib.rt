@@ -1,4 +1,4 @@
-// The rules of the hull, 4 to 8: each a function that says whether it is broken, and the first one broken.
+// The rules of the layout and the hull, 3 to 8: each a function that says whether it is broken, and the first one broken.
 use ship::Deadweight;
 use ship::GrossTonnage;
 use ship::Refusal;
@@ -6,7 +6,14 @@ use ship::Ship;
 use ship::first;
 ghost use mathlib.Core.Path.{_≡_};
 ghost use Rattle.ship.specs.Refusals.{first-of};
-ghost use Rattle.ship.specs.Rules.{imo-refused, type-refused, deadweight-refused, gross-refused, volume-refused, hull-tests};
+ghost use Rattle.ship.specs.Rules.{layout-refused, imo-refused, type-refused, deadweight-refused, gross-refused, volume-refused, hull-tests};
+
+// Rule 3.
+fn layout_broken(layout: u64) -> bool
+    ensures { λ r. ⌜ r ≡ layout-refused layout ⌝ }
+{
+    (layout < 1) | (2 < layout)
+}
 
 // Rule 4.
 fn imo_broken(n: u64) -> bool
@@ -22,10 +29,10 @@ fn imo_broken(n: u64) -> bool
 }
 
 // Rule 5.
-fn type_broken(kind: u64) -> bool
-    ensures { λ r. ⌜ r ≡ type-refused kind ⌝ }
+fn type_broken(layout: u64, kind: u64) -> bool
+    ensures { λ r. ⌜ r ≡ type-refused layout kind ⌝ }
 {
-    (kind < 1) | (7 < kind)
+    ((kind < 1) | (8 < kind)) | ((7 < kind) & (layout != 2))
 }
 
 // Rule 6.
@@ -49,7 +56,7 @@ fn volume_broken(kind: u64, cargo: u64) -> bool
     (kind == 1) & ((cargo < 100) | (1000000 < cargo)) | (kind != 1) & (cargo != 0)
 }
 
-// Rules 4 to 8.
+// Rules 3 to 8.
 pub fn hull_refusal(s: Ship, rest: Refusal) -> Refusal
     ensures { λ r. ⌜ r ≡ first-of (hull-tests s) rest ⌝ }
 {
@@ -59,6 +66,7 @@ pub fn hull_refusal(s: Ship, rest: Refusal) -> Refusal
     let cargo = first(volume_broken(p.kind, p.cargo), Refusal::CargoVolume, rest);
     let tonnage = first(gross_broken(p.kind, gross), Refusal::GrossTonnage, cargo);
     let weight = first(deadweight_broken(deadweight), Refusal::Deadweight, tonnage);
-    let kind = first(type_broken(p.kind), Refusal::ShipType, weight);
-    first(imo_broken(p.imo), Refusal::ImoNumber, kind)
+    let kind = first(type_broken(p.layout, p.kind), Refusal::ShipType, weight);
+    let imo = first(imo_broken(p.imo), Refusal::ImoNumber, kind);
+    first(layout_broken(p.layout), Refusal::Layout, imo)
 }

@@ -7,7 +7,7 @@ use native.Mathlib.Nat.{add-assoc}
 use Rattle.fields.specs.Numbers.{number-at}
 use Rattle.fields.specs.Runs.{numbers-at, total, widths-of}
 use Rattle.ship.specs.Record.{no-engine}
-use Rattle.layout.specs.Layout.{head, entry, entries, newer, fields, widths}
+use Rattle.layout.specs.Layout.{head, entry, entries, cranes, added, newer, fields, widths}
 
 abbrev starts : ℕ → List ℕ → List ℕ
 starts at [] = []
@@ -19,13 +19,15 @@ pub places : starts 0 widths
     ∷ 72 ∷ 76 ∷ 80 ∷ 84 ∷ 86 ∷ 88 ∷ 89 ∷ 90
     ∷ 92 ∷ 96 ∷ 100 ∷ 104 ∷ 106 ∷ 108 ∷ 109 ∷ 110
     ∷ 112 ∷ 116 ∷ 120 ∷ 124 ∷ 126 ∷ 128 ∷ 129 ∷ 130
-    ∷ 132
+    ∷ 132 ∷ 136 ∷ 140 ∷ 141
+    ∷ 144 ∷ 146 ∷ 148 ∷ 150 ∷ 152 ∷ 154 ∷ 156 ∷ 158 ∷ 160 ∷ 162 ∷ 164 ∷ 166 ∷ 168 ∷ 170 ∷ 172 ∷ 174
+    ∷ 176 ∷ 180 ∷ 184 ∷ 188
     ∷ []
-unfolding widths fields head entries entry newer
+unfolding widths fields head entries entry cranes added newer
 places = refl
 
 pub to-508 : total widths ≡ 508
-unfolding widths fields head entries entry newer total
+unfolding widths fields head entries entry cranes added newer total
 to-508 = refl
 
 -- And an entry's, wherever it stands.

@@ -95,11 +95,11 @@ fn speed_broken(method: u64, kind: u64, speed: Range) -> bool
         | (method == 4) & ((speed.low != 0) | (speed.high != 0))
 }
 
-// Rule 14, of a range of speed or MCR, of one engine, of the engines, and of all.
-fn range_broken(method: u64, r: Range) -> bool
-    ensures { λ q. ⌜ q ≡ range-refused method r ⌝ }
+// Rule 14, of a range of speed, which may have to be one figure, of one engine, of the engines, and of all.
+fn range_broken(single: bool, r: Range) -> bool
+    ensures { λ q. ⌜ q ≡ range-refused single r ⌝ }
 {
-    (r.high < r.low) | ((2 <= method) & (method <= 4)) & (r.low != r.high)
+    (r.high < r.low) | single & (r.low != r.high)
 }
 
 fn engine_crossed(method: u64, e: Engine) -> bool
@@ -129,7 +129,8 @@ fn ranges_broken(s: Ship) -> bool
     let used = s.particulars.used;
     let speed = s.speed;
     let es = s.engines;
-    range_broken(method, speed)
+    let single = ((2 <= method) & (method <= 4)) | (s.particulars.kind == 8);
+    range_broken(single, speed)
         | (s.auxiliary.sfc.high < s.auxiliary.sfc.low)
         | engines_crossed(method, used, es)
 }

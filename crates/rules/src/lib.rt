@@ -1,4 +1,6 @@
-// The rules of a record in their order, and rules 15 and 16, which come last.
+// The rules of a record in their order, with rules 15, 16 and 18, which come last.
+use build_rules::build_broken;
+use build_rules::newer_broken;
 use hull_rules::hull_refusal;
 use plant_rules::plant_refusal;
 use ship::Engine;
@@ -26,7 +28,7 @@ fn is_apart(whole: u64, hundredths: u64) -> bool
 
 // Rule 15, of a record whose type, deadweight and engines broke none.
 fn trial_broken(p: Particulars, es: [Engine; 4]) -> bool
-    requires { ⌜ (type-refused (p .kind) ≡ false) × (deadweight-refused (p .deadweight) ≡ false) × (engines-refused (p .used) es ≡ false) ⌝ }
+    requires { ⌜ (type-refused (p .layout) (p .kind) ≡ false) × (deadweight-refused (p .deadweight) ≡ false) × (engines-refused (p .used) es ≡ false) ⌝ }
     ensures { λ r. ⌜ r ≡ trial-refused p es ⌝ }
 {
     let method = p.method;
@@ -68,22 +70,24 @@ fn unused_broken(used: u64, es: [Engine; 4]) -> bool
         | (used <= 3) & is_occupied(d)
 }
 
-// Rules 15 and 16, of a record that broke none of the others; `zeros` is whether a block has a byte that must be zero and isn't.
+// Rules 15, 16 and 18, of a record that broke none of the others; `zeros` is whether a block has a byte that must be zero and isn't.
 fn trial_refusal(zeros: bool, s: Ship) -> Refusal
     requires { ⌜ first-of (early-tests s) Refusal.None ≡ Refusal.None ⌝ }
     ensures { λ r. ⌜ r ≡ first-of (trial-tests zeros s) Refusal.None ⌝ }
 {
     let p = s.particulars;
     let es = s.engines;
+    let build = p.build;
+    let built = first(build_broken(p.kind, build), Refusal::Build, Refusal::None);
     let unused = first(
-        zeros | unused_broken(p.used, es),
+        zeros | unused_broken(p.used, es) | newer_broken(p.layout, build),
         Refusal::Unused,
-        Refusal::None,
+        built,
     );
     first(trial_broken(p, es), Refusal::Trial, unused)
 }
 
-// The first rule from 4 on that is broken, or none. Rule 15 calculates, so it waits until the others hold.
+// The first rule from 3 on that is broken, or none. Rule 15 calculates, so it waits until the others hold.
 pub fn first_broken(zeros: bool, s: Ship) -> Refusal
     ensures { λ r. ⌜ r ≡ first-of (tests zeros s) Refusal.None ⌝ }
 {

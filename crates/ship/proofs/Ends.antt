@@ -72,8 +72,8 @@ not-below n = le-ltb n n (omega arith)
 not-crossed : (top : Bool) (r : Range) → Fails (crossed (one-end top r))
 not-crossed top r = not-below (one-end top r .low)
 
-single : (method : ℕ) (top : Bool) (r : Range) → Fails (range-refused method (one-end top r))
-single method top r = either (not-crossed top r) (none (between 2 4 method) _ (eq-eqb (one-end top r .low) (one-end top r .low) refl))
+single : (held top : Bool) (r : Range) → Fails (range-refused held (one-end top r))
+single held top r = either (not-crossed top r) (none held _ (eq-eqb (one-end top r .low) (one-end top r .low) refl))
   where
     none : (g t : Bool) → t ≡ true → Fails (g && not t)
     none true t e = ap not e
@@ -97,7 +97,7 @@ limit true r n h p =
 
 engine : (top : Bool) (m : ℕ) (e : Engine) → Fails (engine-refused e) → Fails (engine-crossed m e) → Fails (engine-refused (engine-end top e))
 engine top m e p q =
-    let k = neither (range-refused m (e .mcr)) (crossed (e .uses .sfc)) q in
+    let k = neither (range-refused (between 2 4 m) (e .mcr)) (crossed (e .uses .sfc)) q in
     let j = neither (crossed (e .mcr)) _ (k .0) in
     or' (ends (outside 100 120000) top (e .mcr)) (and' (nonzero (e .limit)) (limit top (e .mcr) (e .limit) (j .0))) p
 
@@ -150,11 +150,11 @@ same-power top (suc n) [] h = refl
 same-power top (suc n) (e ∷ es) h =
     ap₂ _+_ (ap (λ x. P-ME x (e .limit)) (h 0 (omega arith))) (same-power top n es (λ i k. h (suc i) (omega arith)))
 
-equal-ends : (top : Bool) (method : ℕ) (r : Range) → between 2 4 method ≡ true → Fails (range-refused method r) → one-end top r .low ≡ r .low
-equal-ends false method r g p = refl
-equal-ends true method r g p =
-    let k = neither (crossed r) (between 2 4 method && not (eqb (r .low) (r .high))) p in
-    sym (eqb-true (r .low) (r .high) (not-false _ (not-with (between 2 4 method) _ (k .1) g)))
+equal-ends : (top held : Bool) (r : Range) → held ≡ true → Fails (range-refused held r) → one-end top r .low ≡ r .low
+equal-ends false held r g p = refl
+equal-ends true held r g p =
+    let k = neither (crossed r) (held && not (eqb (r .low) (r .high))) p in
+    sym (eqb-true (r .low) (r .high) (not-false _ (not-with held _ (k .1) g)))
 
 by-trial : (n : ℕ) → eqb n 2 || eqb n 3 ≡ true → between 2 4 n ≡ true
 by-trial n h = go n (eqb n 2) refl h
@@ -167,7 +167,7 @@ module _ (top : Bool) (p : Particulars) (es : List Engine) (few : p .used ≤ 4)
   kept-power : between 2 4 (p .method) ≡ true → sum-P-ME (engines-at low (mains (p .used) (map (engine-end top) es))) ≡ sum-P-ME (engines-at low (mains (p .used) es))
   kept-power g =
       same-power top (p .used) es
-      (λ i k. equal-ends top (p .method) _ g (neither _ _ (each-used (engine-crossed (p .method)) (p .used) es crossing i (omega (arith, few)) k) .0))
+      (λ i k. equal-ends top (between 2 4 (p .method)) _ g (neither _ _ (each-used (engine-crossed (p .method)) (p .used) es crossing i (omega (arith, few)) k) .0))
 
   trial : Fails (trial-refused p es) → Fails (trial-refused p (map (engine-end top) es))
   unfolding trial-refused
@@ -186,10 +186,12 @@ accepted-end top s e =
     let es = s .engines in
     let q = no-refusal s e in
     let h = q .early in
-    let r = neither (range-refused (p .method) (s .speed) || crossed (s .auxiliary .sfc)) (any-used (engine-crossed (p .method)) (p .used) es) (h .ranges) .1 in
+    let held = between 2 4 (p .method) || eqb (p .kind) 8 in
+    let r = neither (range-refused held (s .speed) || crossed (s .auxiliary .sfc)) (any-used (engine-crossed (p .method)) (p .used) es) (h .ranges) .1 in
     let n = neither (outside 1 4 (p .used)) (any-used engine-refused (p .used) es) (h .engines) in
     let c = neither (uses-refused (s .auxiliary)) (any-used (λ x. uses-refused (x .uses)) (p .used) es) (h .consumption) in
     rw (
+      h .layout,
       h .imo,
       h .kind,
       h .deadweight,
@@ -201,11 +203,13 @@ accepted-end top s e =
       h .auxiliary,
       h .ice,
       speed (not top) (p .method) (p .kind) (s .speed) (h .speed),
-      either (either (single (p .method) (not top) (s .speed)) (not-crossed top (s .auxiliary .sfc)))
+      either (either (single held (not top) (s .speed)) (not-crossed top (s .auxiliary .sfc)))
           (used top es (engine-crossed (p .method)) (engine-crossed (p .method)) (engine-crossed (p .method))
-          (λ x a b. either (single (p .method) top (x .mcr)) (not-crossed top (x .uses .sfc))) (p .used) r r),
+          (λ x a b. either (single (between 2 4 (p .method)) top (x .mcr)) (not-crossed top (x .uses .sfc))) (p .used) r r),
       trial top p es (inside 1 4 (p .used) (n .0) .most) r (q .trial),
       others top es occupied occupied occupied (λ x a b. unused top x a) (p .used) (q .unused) (q .unused),
+      q .newer,
+      q .build,
     )
 
 -- ── The ship that it stands for ─────────────────────────────────────────────────────────────

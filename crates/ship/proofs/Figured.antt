@@ -2,7 +2,7 @@
 -- Assumes nothing.
 use Prim.Native.Nat.{ℕ, zero, suc, _*_, _≤_, _<_}
 use mathlib.Core.Path.{_≡_, refl, sym, ap, _∙_}
-use mathlib.Core.Bool.{Bool, true, false, _&&_, not}
+use mathlib.Core.Bool.{Bool, true, false, _&&_, _||_, not}
 use mathlib.Core.List.{List, [], _∷_}
 use native.Mathlib.Omega.{arith}
 use borrow.Author.Tests.{eqb-true, eqb-false}
@@ -12,19 +12,20 @@ use Rattle.exact.specs.Ship as exact
 use Rattle.exact.specs.Ranges.{Range, engines-at, low, high, Single, Settled}
 use Rattle.formula.specs.Words.{if}
 use Rattle.exact.specs.Index.{Capacity, P-ME, sum-P-ME}
-use Rattle.ship.specs.Record.{no-engine}
-use Rattle.ship.specs.Rules.{nonzero, outside, refusal-of}
-use Rattle.ship.specs.Figures.{kinds, kind-of, Listed, fuel-of, range-of, deadweight-of, uses-of, engine-of, mains, auxiliary-of, method-of, figures}
-use Rattle.ship.specs.Accepted.{Within, Ends, Limited, no-limiter, limiter, Measured, Rated, Each, no-more, one-more, Supplied, Near, By-design-draught, Sailed, Accepted-figures}
+use Rattle.ship.specs.Record.{no-engine, no-crane}
+use Rattle.ship.specs.Rules.{nonzero, outside, between, refusal-of}
+use Rattle.ship.specs.Figures.{kinds, kind-of, Listed, fuel-of, range-of, deadweight-of, uses-of, engine-of, mains, auxiliary-of, method-of, hull-of, crane-of, cranes-of, figures}
+use Rattle.ship.specs.Accepted.{Within, Ends, Limited, no-limiter, limiter, Measured, Rated, Each, no-more, one-more, Supplied, Near, By-design-draught, Sailed, Firm, Shaped, Geared, Accepted-figures}
 use Rattle.ship.specs.declared.Consumption.{Consumption}
 use Rattle.ship.specs.declared.Engine.{Engine}
+use Rattle.ship.specs.declared.Crane.{Crane}
 use Rattle.ship.specs.declared.Trial.{Trial}
 use Rattle.ship.specs.declared.Ship.{Ship}
 use Rattle.ship.specs.declared.Refusal.the-variants as refusal
 use Rattle.exact.proofs.Rules.{P-ME-unlimited, P-ME-limited}
 use Rattle.ship.proofs.Tests.{not-with, inside}
 use Rattle.ship.proofs.Numbered.{by-number}
-use Rattle.ship.proofs.Right.{Metered, Entry, Of-type, numbers-accepted}
+use Rattle.ship.proofs.Right.{Metered, Entry, Of-type, by-method, by-type, numbers-accepted}
 
 -- ── Types by number ─────────────────────────────────────────────────────────────────────────
 
@@ -36,17 +37,18 @@ number-of-kind exact.container = 4
 number-of-kind exact.refrigerated = 5
 number-of-kind exact.combination = 6
 number-of-kind exact.vehicle = 7
+number-of-kind exact.general = 8
 
 kind-back : (k : ℕ) → Listed k → number-of-kind (kind-of k) ≡ k
 unfolding number-of-kind
-kind-back = by-number (λ k. number-of-kind (kind-of k) ≡ k) (length kinds) (((((((tt, refl), refl), refl), refl), refl), refl), refl)
+kind-back = by-number (λ k. number-of-kind (kind-of k) ≡ k) (length kinds) ((((((((tt, refl), refl), refl), refl), refl), refl), refl), refl)
 
 draught : (k : ℕ) → Listed k → not (eqb k 1) && not (eqb k 3) && not (eqb k 4) ≡ false → By-design-draught (kind-of k)
 draught =
     by-number
     (λ k. not (eqb k 1) && not (eqb k 3) && not (eqb k 4) ≡ false → By-design-draught (kind-of k))
     (length kinds)
-    (((((((tt, λ h. tt), barred), λ h. tt), λ h. tt), barred), barred), barred)
+    ((((((((tt, λ h. tt), barred), λ h. tt), λ h. tt), barred), barred), barred), barred)
   where
     barred : true ≡ false → ⊥
     barred h = let z : _≡_ {A = ℕ} 0 1 = cc in omega arith
@@ -144,6 +146,25 @@ module _ (v : Range) (t : Trial) (es : List (exact.Engine Range)) where
       by-number (λ m. (2 ≤ m → v .low ≡ v .high) → (2 ≤ m → Single es) → Settled (method-of m v t) es) 4
       ((((tt, λ f g. tt), λ f g. (f (lit≤ tt), g (lit≤ tt))), λ f g. (f (lit≤ tt), g (lit≤ tt))), λ f g. g (lit≤ tt))
 
+-- Of a general cargo ship a declared speed is one figure.
+firm : (v : Range) (t : Trial) (m : ℕ) → Within 1 4 m → v .low ≡ v .high → Firm (method-of m v t)
+unfolding method-of
+firm v t = by-number (λ m. v .low ≡ v .high → Firm (method-of m v t)) 4 ((((tt, λ h. h), λ h. tt), λ h. tt), λ h. tt)
+
+-- ── The cranes ──────────────────────────────────────────────────────────────────────────────
+
+each-crane : (n : ℕ) (cs : List Crane) → ((i : ℕ) → i < n → Geared (crane-of (getD cs i no-crane))) → Each Geared (cranes-of n cs)
+unfolding cranes-of
+each-crane zero cs f = no-more
+each-crane (suc n) [] f = no-more
+each-crane (suc n) (c ∷ cs) f = one-more (f 0 (omega arith)) (each-crane n cs (λ i k. f (suc i) (omega arith)))
+
+crane-count : (n : ℕ) (cs : List Crane) → length (cranes-of n cs) ≤ n
+unfolding cranes-of
+crane-count zero cs = omega arith
+crane-count (suc n) [] = omega arith
+crane-count (suc n) (c ∷ cs) = omega (arith, crane-count n cs)
+
 supplied : (m kW : ℕ) → Of-type 2 1 50000 m kW → Supplied (auxiliary-of m kW)
 unfolding auxiliary-of
 supplied m kW h = go (eqb m 2) refl
@@ -164,12 +185,14 @@ figures-accepted s four e =
     let engines = each-main Rated (p .used) es room (λ i h. rated-entry (p .method) (getD es i no-engine) (r .entries i h)) in
     let n = count (p .used) es room in
     let u = r .used in
+    let number : (kind : exact.Kind) → kind-of (p .kind) ≡ kind → p .kind ≡ number-of-kind kind = λ kind k. sym (kind-back (p .kind) (r .kind)) ∙ ap number-of-kind k in
+    let held : between 2 4 (p .method) ≡ true → between 2 4 (p .method) || eqb (p .kind) 8 ≡ true = λ k. rw k in
     let l = sum-within low (λ q h. (h .least, omega (arith, h .rising, h .most))) engines in
     let h = sum-within high (λ q h. (omega (arith, h .least, h .rising), h .most)) engines in
     record {
       deadweight = r .deadweight;
-      gross = λ k. record { least = r .gross .least (sym (kind-back (p .kind) (r .kind)) ∙ ap number-of-kind k); most = r .gross .most };
-      cargo = λ k. record { least = r .cargo .least (sym (kind-back (p .kind) (r .kind)) ∙ ap number-of-kind k); most = r .cargo .most };
+      gross = λ k. record { least = r .gross .least (number exact.vehicle k); most = r .gross .most };
+      cargo = λ k. record { least = r .cargo .least (number exact.bulk k); most = r .cargo .most };
       auxiliary = supplied (p .supply) (p .table) (r .table);
       auxiliary-uses = measured (s .auxiliary) (r .auxiliary-uses);
       count = rw n (r .used);
@@ -187,6 +210,11 @@ figures-accepted s four e =
           (λ k. record { least = r .speed .least k; rising = r .ends .rising; most = r .speed .most .1 })
           (r .trial .tried)
           (λ k. (r .trial .loaded k, draught (p .kind) (r .kind) (r .speed .draught k)));
-      settled = settled (range-of (s .speed)) (p .trial) (mains (p .used) es) (p .method) (r .speed .method) (r .ends .single)
-          (λ k. single (each-main (λ e. e .mcr .low ≡ e .mcr .high) (p .used) es room (λ i h. one-mcr (getD es i no-engine) (r .entries i h .mcr .single k))));
+      settled = settled (range-of (s .speed)) (p .trial) (mains (p .used) es) (p .method) (r .speed .method) (λ k. r .ends .single (held (by-method (p .method) (r .speed .method) k)))
+          (λ k. single (each-main (λ e. e .mcr .low ≡ e .mcr .high) (p .used) es room (λ i h. one-mcr (getD es i no-engine) (r .entries i h .mcr .single (by-method (p .method) (r .speed .method) k)))));
+      firm = λ k. firm (range-of (s .speed)) (p .trial) (p .method) (r .speed .method) (r .ends .single (by-type (p .method) (p .kind) (number exact.general k)));
+      lightweight = r .build .lightweight;
+      hull = λ k. r .build .hull (number exact.general k);
+      cranes = each-crane (p .build .cranes) (p .build .gear) (r .build .used);
+      few = omega (arith, crane-count (p .build .cranes) (p .build .gear), r .build .cranes);
     }

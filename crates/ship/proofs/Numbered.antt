@@ -31,7 +31,7 @@ by-number P (suc m) u n w = last-or P m n (u .1) (λ h. by-number P m (u .0) n (
 
 -- Number 4 is the container ship.
 pub is-container : (kind : ℕ) → Listed kind → container? (kind-of kind) ≡ eqb kind 4
-is-container = by-number (λ kind. container? (kind-of kind) ≡ eqb kind 4) (length kinds) (((((((tt, refl), refl), refl), refl), refl), refl), refl)
+is-container = by-number (λ kind. container? (kind-of kind) ≡ eqb kind 4) (length kinds) ((((((((tt, refl), refl), refl), refl), refl), refl), refl), refl)
 
 -- ── Speed methods ───────────────────────────────────────────────────────────────────────────
 

@@ -1,37 +1,42 @@
 -- What the numbers of a record with no refusal are.
 -- Assumes nothing.
-use Prim.Native.Nat.{ℕ, _+_, _*_, _≤_, _<_}
+use Prim.Native.Nat.{ℕ, zero, suc, _+_, _*_, _≤_, _<_}
 use mathlib.Core.Path.{_≡_, refl, sym, ap, _∙_}
 use mathlib.Core.Bool.{Bool, true, false, _&&_, _||_, not}
 use mathlib.Core.List.{List, _++_}
 use native.Mathlib.Omega.{arith}
-use borrow.Author.Tests.{ltb-false, eq-eqb, ne-eqb, eqb-true, eqb-false, le-leb, not-false}
-use lib.Dec.{eqb, ltb}
+use borrow.Author.Tests.{ltb-false, lt-ltb, eq-eqb, ne-eqb, eqb-true, eqb-false, le-leb, not-false}
+use lib.Dec.{eqb, ltb, leb, eqb·suc-zero}
 use lib.ListN.{getD, length}
 use Rattle.exact.specs.Index.{Capacity, sum-P-ME}
 use Rattle.exact.specs.Ranges.{engines-at, low}
-use Rattle.ship.specs.Record.{no-engine}
+use Rattle.ship.specs.Record.{no-engine, no-crane}
 use Rattle.ship.specs.Refusals.{first-of}
-use Rattle.ship.specs.Figures.{kinds, kind-of, Listed, last-ice, Fuelled, deadweight-of, mains}
-use Rattle.ship.specs.Rules.{outside, between, nonzero, any-used, imo-refused, type-refused, deadweight-refused, gross-refused, volume-refused, engines-refused}
+use Rattle.ship.specs.Figures.{kinds, kind-of, Listed, last-ice, Fuelled, deadweight-of, hull-of, crane-of, mains}
+use Rattle.ship.specs.Rules.{outside, between, nonzero, any-used, any-below, layout-refused, imo-refused, type-refused, deadweight-refused, gross-refused, volume-refused, engines-refused}
 use Rattle.ship.specs.Rules.{uses-refused, consumption-refused, auxiliary-refused, ice-refused, speed-refused, crossed, range-refused, engine-crossed}
+use Rattle.ship.specs.Rules.{lifting, shaped, newer-refused, lightweight-refused, crane-refused, cranes-refused, hull-refused, build-refused}
 use Rattle.ship.specs.Rules.{ranges-refused, apart, trial-refused, occupied, unused-refused, hull-tests, plant-tests, trial-tests, early-tests, tests, refusal-of}
-use Rattle.ship.specs.Accepted.{Within, Near}
+use Rattle.ship.specs.Accepted.{Within, Near, Shaped, Geared}
 use Rattle.ship.specs.declared.Range.{Range}
 use Rattle.ship.specs.declared.Consumption.{Consumption}
 use Rattle.ship.specs.declared.Engine.{Engine}
+use Rattle.ship.specs.declared.Hull.{Hull}
+use Rattle.ship.specs.declared.Crane.{Crane}
+use Rattle.ship.specs.declared.Build.{Build}
 use Rattle.ship.specs.declared.Particulars.{Particulars}
 use Rattle.ship.specs.declared.Ship.{Ship}
 use Rattle.ship.specs.declared.Refusal.{Refusal}
 use Rattle.ship.specs.declared.Refusal.the-variants as refusal
 use Rattle.ship.proofs.Order.{passed, own-none, or-else, two-stages}
-use Rattle.ship.proofs.Tests.{neither, not-with, inside, is-zero, each-used, each-unused, engines-inside, Sized, engine-inside}
+use Rattle.ship.proofs.Tests.{or-true, neither, not-with, inside, is-zero, none-below, each-used, each-unused, engines-inside, Sized, engine-inside}
 
 -- ── What a record has passed, row by row ────────────────────────────────────────────────────
 
 pub record Early (s : Ship) : Type 0 where
+  pub layout : layout-refused (s .particulars .layout) ≡ false
   pub imo : imo-refused (s .particulars .imo) ≡ false
-  pub kind : type-refused (s .particulars .kind) ≡ false
+  pub kind : type-refused (s .particulars .layout) (s .particulars .kind) ≡ false
   pub deadweight : deadweight-refused (s .particulars .deadweight) ≡ false
   pub gross : gross-refused (s .particulars .kind) (s .particulars .gross) ≡ false
   pub cargo : volume-refused (s .particulars .kind) (s .particulars .cargo) ≡ false
@@ -47,17 +52,18 @@ unfolding hull-tests plant-tests
 early s e =
     let h = passed (early-tests s) refusal.None refl e in
     record {
-      imo = h 0;
-      kind = h 1;
-      deadweight = h 2;
-      gross = h 3;
-      cargo = h 4;
-      engines = h 5;
-      consumption = h 6;
-      auxiliary = h 7;
-      ice = h 8;
-      speed = h 9;
-      ranges = h 10;
+      layout = h 0;
+      imo = h 1;
+      kind = h 2;
+      deadweight = h 3;
+      gross = h 4;
+      cargo = h 5;
+      engines = h 6;
+      consumption = h 7;
+      auxiliary = h 8;
+      ice = h 9;
+      speed = h 10;
+      ranges = h 11;
     }
 
 pub record Passed (z : Bool) (s : Ship) : Type 0 where
@@ -65,13 +71,24 @@ pub record Passed (z : Bool) (s : Ship) : Type 0 where
   pub trial : trial-refused (s .particulars) (s .engines) ≡ false
   pub zeros : z ≡ false
   pub unused : unused-refused (s .particulars .used) (s .engines) ≡ false
+  pub newer : newer-refused (s .particulars .layout) (s .particulars .build) ≡ false
+  pub build : build-refused (s .particulars .kind) (s .particulars .build) ≡ false
 
 pub all-passed : (zeros : Bool) (s : Ship) → first-of (tests zeros s) refusal.None ≡ refusal.None → Passed zeros s
 unfolding hull-tests plant-tests trial-tests
 all-passed zeros s e =
     let h = passed (tests zeros s) refusal.None refl e in
-    let k = neither zeros (unused-refused (s .particulars .used) (s .engines)) (h 12) in
-    record { early = early s (own-none (first-of (early-tests s) refusal.None) _ (sym (two-stages (early-tests s) (trial-tests zeros s) refl) ∙ e)); trial = h 11; zeros = k .0; unused = k .1 }
+    let p = s .particulars in
+    let n = neither (zeros || unused-refused (p .used) (s .engines)) (newer-refused (p .layout) (p .build)) (h 13) in
+    let k = neither zeros (unused-refused (p .used) (s .engines)) (n .0) in
+    record {
+      early = early s (own-none (first-of (early-tests s) refusal.None) _ (sym (two-stages (early-tests s) (trial-tests zeros s) refl) ∙ e));
+      trial = h 12;
+      zeros = k .0;
+      unused = k .1;
+      newer = n .1;
+      build = h 14;
+    }
 
 pub no-refusal : (s : Ship) → refusal-of s ≡ refusal.None → Passed false s
 unfolding refusal-of
@@ -157,21 +174,28 @@ metered c e r =
 
 -- ── Rule 14: a range, and an engine entry that is used ──────────────────────────────────────
 
-pub record Settles (method : ℕ) (r : Range) : Type 0 where
+pub record Settles (held : Bool) (r : Range) : Type 0 where
   pub rising : r .low ≤ r .high
-  pub single : 2 ≤ method → r .low ≡ r .high
+  pub single : held ≡ true → r .low ≡ r .high
 
-settles : (method : ℕ) (r : Range) → method ≤ 4 → range-refused method r ≡ false → Settles method r
-settles method r m e =
-    let k = neither (crossed r) (between 2 4 method && not (eqb (r .low) (r .high))) e in
+settles : (held : Bool) (r : Range) → range-refused held r ≡ false → Settles held r
+settles held r e =
+    let k = neither (crossed r) (held && not (eqb (r .low) (r .high))) e in
     record {
       rising = ltb-false (r .high) (r .low) (k .0);
-      single = λ h. eqb-true (r .low) (r .high) (not-false _ (not-with (between 2 4 method) _ (k .1) (met 2 4 method h m)));
+      single = λ h. eqb-true (r .low) (r .high) (not-false _ (not-with held _ (k .1) h));
     }
+
+-- By methods 2 to 4 every range is held to one figure, and of type 8 the speed's.
+pub by-method : (method : ℕ) → Within 1 4 method → 2 ≤ method → between 2 4 method ≡ true
+by-method method w h = met 2 4 method h (w .most)
+
+pub by-type : (method kind : ℕ) → kind ≡ 8 → between 2 4 method || eqb kind 8 ≡ true
+by-type method kind h = rw (eq-eqb kind 8 h) (or-true (between 2 4 method))
 
 pub record Entry (method : ℕ) (e : Engine) : Type 0 where
   pub sized : Sized e
-  pub mcr : Settles method (e .mcr)
+  pub mcr : Settles (between 2 4 method) (e .mcr)
   pub uses : Metered (e .uses)
 
 -- ── Rule 13: the speed ──────────────────────────────────────────────────────────────────────
@@ -252,10 +276,6 @@ trialled p es w e =
       tried = tried;
       loaded = loaded;
     }
-  where
-    or-true : (b : Bool) → b || true ≡ true
-    or-true true = refl
-    or-true false = refl
 
 -- ── Rule 16: an entry that is not used ──────────────────────────────────────────────────────
 
@@ -277,9 +297,98 @@ idle e h =
       };
     }
 
+-- ── Rule 18: what layout 2 adds ─────────────────────────────────────────────────────────────
+
+-- Nothing of a hull is larger than a ship's.
+pub record Small (h : Hull) : Type 0 where
+  pub volume : h .volume ≤ 1000000
+  pub length : h .length ≤ 50000
+  pub breadth : h .breadth ≤ 10000
+  pub draught : h .draught ≤ 4000
+
+pub record Built (kind : ℕ) (b : Build) : Type 0 where
+  pub lightweight : b .lightweight ≤ 200000
+  pub cranes : b .cranes ≤ 8
+  pub used : (i : ℕ) → i < b .cranes → Geared (crane-of (getD (b .gear) i no-crane))
+  pub others : (i : ℕ) → i < 8 → b .cranes ≤ i → getD (b .gear) i no-crane ≡ no-crane
+  pub small : Small (b .hull)
+  pub hull : kind ≡ 8 → Shaped (hull-of (b .hull))
+
+light : (kind n : ℕ) → lightweight-refused kind n ≡ false → n ≤ 200000
+light kind zero e = omega arith
+light kind (suc n) e =
+    let other = not (eqb kind 1) && not (eqb kind 3) in
+    inside 100 200000 (suc n) (neither other (outside 100 200000 (suc n)) (not-with (nonzero (suc n)) (other || outside 100 200000 (suc n)) e (ap not (eqb·suc-zero n))) .1) .most
+
+geared : (used i : ℕ) (c : Crane) → crane-refused used i c ≡ false → i < used → Geared (crane-of c)
+geared used i c e h =
+    let k = neither (ltb i used && (outside 1 10000 (c .swl) || outside 1 10000 (c .reach))) (leb used i && lifting c) e in
+    let j = neither (outside 1 10000 (c .swl)) (outside 1 10000 (c .reach)) (not-with (ltb i used) _ (k .0) (lt-ltb i used h)) in
+    record { swl = inside 1 10000 (c .swl) (j .0); reach = inside 1 10000 (c .reach) (j .1) }
+
+lowered : (used i : ℕ) (c : Crane) → crane-refused used i c ≡ false → used ≤ i → c ≡ no-crane
+lowered used i c e h =
+    let k = neither (ltb i used && (outside 1 10000 (c .swl) || outside 1 10000 (c .reach))) (leb used i && lifting c) e in
+    let j = neither (nonzero (c .swl)) (nonzero (c .reach)) (not-with (leb used i) _ (k .1) (le-leb used i h)) in
+    λ i. record { swl = is-zero (c .swl) (j .0) i; reach = is-zero (c .reach) (j .1) i }
+
+module _ (kind : ℕ) (h : Hull) (e : hull-refused kind h ≡ false) where
+  own-shape : kind ≡ 8 → Shaped (hull-of h)
+  own-shape g =
+      let k = neither (eqb kind 8 && _) (not (eqb kind 8) && shaped h) e in
+      let j = neither _ (ltb (h .length * h .breadth * h .draught) (h .volume * 1000000)) (not-with (eqb kind 8) _ (k .0) (eq-eqb kind 8 g)) in
+      let v = neither _ (outside 100 1000000 (h .volume)) (j .0) in
+      let t = neither _ (outside 50 4000 (h .draught)) (v .0) in
+      let b = neither (outside 1000 50000 (h .length)) (outside 200 10000 (h .breadth)) (t .0) in
+      record {
+        volume = inside 100 1000000 (h .volume) (v .1);
+        length = inside 1000 50000 (h .length) (b .0);
+        breadth = inside 200 10000 (h .breadth) (b .1);
+        draught = inside 50 4000 (h .draught) (t .1);
+        inside = ltb-false (h .length * h .breadth * h .draught) (h .volume * 1000000) (j .1);
+      }
+
+  no-shape : (kind ≡ 8 → ⊥) → Small h
+  no-shape g =
+      let k = neither (eqb kind 8 && _) (not (eqb kind 8) && shaped h) e in
+      let t = neither _ (nonzero (h .draught)) (not-with (not (eqb kind 8)) (shaped h) (k .1) (ap not (ne-eqb kind 8 g))) in
+      let b = neither _ (nonzero (h .breadth)) (t .0) in
+      let l = neither (nonzero (h .volume)) (nonzero (h .length)) (b .0) in
+      record {
+        volume = omega (arith, is-zero (h .volume) (l .0));
+        length = omega (arith, is-zero (h .length) (l .1));
+        breadth = omega (arith, is-zero (h .breadth) (b .1));
+        draught = omega (arith, is-zero (h .draught) (t .1));
+      }
+
+  small : Small h
+  small =
+      cases kind 8
+      (λ g. let w = own-shape g in record { volume = w .volume .most; length = w .length .most; breadth = w .breadth .most; draught = w .draught .most })
+      no-shape
+
+built-so : (kind : ℕ) (b : Build) → build-refused kind b ≡ false → Built kind b
+unfolding build-refused
+built-so kind b e =
+    let row : ℕ → Bool = λ i. crane-refused (b .cranes) i (getD (b .gear) i no-crane) in
+    let k = neither (lightweight-refused kind (b .lightweight) || cranes-refused kind (b .cranes) (b .gear)) (hull-refused kind (b .hull)) e in
+    let j = neither (lightweight-refused kind (b .lightweight)) (cranes-refused kind (b .cranes) (b .gear)) (k .0) in
+    let c = neither (ltb 8 (b .cranes) || not (eqb kind 8) && nonzero (b .cranes)) (any-below row 8) (j .1) in
+    let n = neither (ltb 8 (b .cranes)) _ (c .0) in
+    let few = ltb-false 8 (b .cranes) (n .0) in
+    record {
+      lightweight = light kind (b .lightweight) (j .0);
+      cranes = few;
+      used = λ i h. geared (b .cranes) i _ (none-below row 8 (c .1) i (omega arith)) h;
+      others = λ i g h. lowered (b .cranes) i _ (none-below row 8 (c .1) i g) h;
+      small = small kind (b .hull) (k .1);
+      hull = own-shape kind (b .hull) (k .1);
+    }
+
 -- ── All of them ─────────────────────────────────────────────────────────────────────────────
 
 pub record Accepted-numbers (s : Ship) : Type 0 where
+  pub layout : Within 1 2 (s .particulars .layout)
   pub imo : Within 1000000 9999999 (s .particulars .imo)
   pub kind : Listed (s .particulars .kind)
   pub deadweight : Within 100 600000 (s .particulars .deadweight .tonnes)
@@ -292,10 +401,11 @@ pub record Accepted-numbers (s : Ship) : Type 0 where
   pub table : Of-type 2 1 50000 (s .particulars .supply) (s .particulars .table)
   pub ice : s .particulars .ice ≤ last-ice
   pub speed : Speeded (s .particulars .method) (s .particulars .kind) (s .speed)
-  pub ends : Settles (s .particulars .method) (s .speed)
+  pub ends : Settles (between 2 4 (s .particulars .method) || eqb (s .particulars .kind) 8) (s .speed)
   pub trial : Trialled (s .particulars .method) (s .particulars .trial .power) (s .particulars .trial .deadweight .tonnes)
       (sum-P-ME (engines-at low (mains (s .particulars .used) (s .engines)))) (Capacity (kind-of (s .particulars .kind)) (deadweight-of (s .particulars .deadweight)))
   pub others : (i : ℕ) → i < 4 → s .particulars .used ≤ i → getD (s .engines) i no-engine ≡ no-engine
+  pub build : Built (s .particulars .kind) (s .particulars .build)
 
 -- Rule 11 in the shape of rules 7 and 8.
 supplied : (method power : ℕ) → auxiliary-refused method power ≡ false → Within 1 2 method × Of-type 2 1 50000 method power
@@ -315,23 +425,25 @@ numbers-accepted s e =
     let h = q .early in
     let k = engines-inside (p .used) es (h .engines) in
     let u = neither (uses-refused (s .auxiliary)) (any-used (λ e. uses-refused (e .uses)) (p .used) es) (h .consumption) in
-    let r = neither (range-refused (p .method) (s .speed) || crossed (s .auxiliary .sfc)) (any-used (engine-crossed (p .method)) (p .used) es) (h .ranges) in
-    let c = neither (range-refused (p .method) (s .speed)) (crossed (s .auxiliary .sfc)) (r .0) in
+    let held = between 2 4 (p .method) || eqb (p .kind) 8 in
+    let r = neither (range-refused held (s .speed) || crossed (s .auxiliary .sfc)) (any-used (engine-crossed (p .method)) (p .used) es) (h .ranges) in
+    let c = neither (range-refused held (s .speed)) (crossed (s .auxiliary .sfc)) (r .0) in
     let v = speeded (p .method) (p .kind) (s .speed) (h .speed) in
     let a = supplied (p .supply) (p .table) (h .auxiliary) in
     record {
+      layout = inside 1 2 (p .layout) (h .layout);
       imo = inside 1000000 9999999 (p .imo) (neither (outside 1000000 9999999 (p .imo)) _ (h .imo) .0);
-      kind = inside 1 (length kinds) (p .kind) (h .kind);
+      kind = inside 1 (length kinds) (p .kind) (neither (outside 1 (length kinds) (p .kind)) _ (h .kind) .0);
       deadweight = inside 100 600000 (p .deadweight .tonnes) (h .deadweight);
       gross = of-type 7 100 400000 (p .kind) (p .gross .gt) (h .gross);
       cargo = of-type 1 100 1000000 (p .kind) (p .cargo) (h .cargo);
       used = k .0;
       entries = λ i g.
           let four : i < 4 = omega (arith, k .0) in
-          let c = neither (range-refused (p .method) (getD es i no-engine .mcr)) (crossed (getD es i no-engine .uses .sfc)) (each-used (engine-crossed (p .method)) (p .used) es (r .1) i four g) in
+          let c = neither (range-refused (between 2 4 (p .method)) (getD es i no-engine .mcr)) (crossed (getD es i no-engine .uses .sfc)) (each-used (engine-crossed (p .method)) (p .used) es (r .1) i four g) in
           record {
             sized = engine-inside (getD es i no-engine) (k .1 i g);
-            mcr = settles (p .method) (getD es i no-engine .mcr) (v .method .most) (c .0);
+            mcr = settles (between 2 4 (p .method)) (getD es i no-engine .mcr) (c .0);
             uses = metered (getD es i no-engine .uses) (each-used (λ e. uses-refused (e .uses)) (p .used) es (u .1) i four g) (c .1);
           };
       auxiliary-uses = metered (s .auxiliary) (u .0) (c .1);
@@ -339,7 +451,8 @@ numbers-accepted s e =
       table = a .1;
       ice = ltb-false last-ice (p .ice) (h .ice);
       speed = v;
-      ends = settles (p .method) (s .speed) (v .method .most) (c .0);
+      ends = settles held (s .speed) (c .0);
       trial = trialled p es (v .method) (q .trial);
       others = λ i f g. idle (getD es i no-engine) (each-unused occupied (p .used) es (q .unused) i f g);
+      build = built-so (p .kind) (p .build) (q .build);
     }

@@ -1,15 +1,16 @@
 -- What tests that hold, or don't, say of numbers.
 -- Assumes nothing.
 use Prim.Native.Nat.{ℕ, zero, suc, _+_, _*_, _/_, _≤_, _<_}
-use mathlib.Core.Path.{_≡_, refl, sym, ap, ap₂}
+use mathlib.Core.Path.{_≡_, refl, sym, ap, ap₂, _∙_}
 use mathlib.Core.Bool.{Bool, true, false, _&&_, _||_, not}
 use mathlib.Core.List.{List}
+use native.Mathlib.Numerals.{add-one}
 use native.Mathlib.Omega.{arith}
-use borrow.Author.Tests.{ltb-true, ltb-false, lt-ltb, le-leb, eqb-true, not-false}
+use borrow.Author.Tests.{ltb-true, ltb-false, lt-ltb, le-leb, eqb-true, eqb-false, not-false}
 use lib.Dec.{eqb, ltb, leb, eqb·suc-zero}
 use lib.ListN.{getD}
 use Rattle.ship.specs.Record.{no-engine}
-use Rattle.ship.specs.Rules.{outside, nonzero, any-used, any-unused, engine-refused, engines-refused, apart}
+use Rattle.ship.specs.Rules.{outside, nonzero, any-used, any-unused, any-below, engine-refused, engines-refused, apart}
 use Rattle.ship.specs.Accepted.{Within}
 use Rattle.ship.specs.declared.Engine.{Engine}
 
@@ -28,6 +29,14 @@ apart-divided w h =
     (agree (ltb w ((h + 499) / 500)) (ltb (5 * (100 * w)) h) (λ t. lt-ltb (5 * (100 * w)) h (omega (arith, ltb-true w ((h + 499) / 500) t)))
     (λ t. lt-ltb w ((h + 499) / 500) (omega (arith, ltb-true (5 * (100 * w)) h t))))
 
+pub or-true : (b : Bool) → b || true ≡ true
+or-true true = refl
+or-true false = refl
+
+pub or-false : (b : Bool) → b || false ≡ b
+or-false true = refl
+or-false false = refl
+
 -- ── Tests that fail ─────────────────────────────────────────────────────────────────────────
 
 pub neither : (a b : Bool) → a || b ≡ false → (a ≡ false) × (b ≡ false)
@@ -45,6 +54,25 @@ inside lo hi n e =
 
 pub is-zero : (n : ℕ) → nonzero n ≡ false → n ≡ 0
 is-zero n e = eqb-true n 0 (not-false (eqb n 0) e)
+
+-- One entry more, and all eight.
+pub any-step : (t : ℕ → Bool) (i : ℕ) {some one : Bool} → some ≡ any-below t i → one ≡ t i → some || one ≡ any-below t (i + 1)
+any-step t i e f = rw (add-one, e, f)
+
+pub any-all : (t : ℕ → Bool) (n i : ℕ) {some : Bool} → some ≡ any-below t i → i ≡ n → some ≡ any-below t n
+any-all t n i e h = e ∙ ap (any-below t) h
+
+-- Each of the entries 0 to n - 1.
+last-or-below : (t : ℕ → Bool) (n i : ℕ) → t n ≡ false → (i < n → t i ≡ false) → i < suc n → t i ≡ false
+last-or-below t n i last rest h = go (eqb i n) refl
+  where
+    go : (b : Bool) → eqb i n ≡ b → t i ≡ false
+    go true k = rw (eqb-true i n k) last
+    go false k = let d = eqb-false i n k in rest (omega arith)
+
+pub none-below : (t : ℕ → Bool) (n : ℕ) → any-below t n ≡ false → (i : ℕ) → i < n → t i ≡ false
+none-below t zero e i h = absurd (omega arith)
+none-below t (suc n) e i h = let k = neither (any-below t n) (t n) e in last-or-below t n i (k .1) (none-below t n (k .0) i) h
 
 -- Four guarded tests that fail.
 each-of : (g t : ℕ → Bool) → g 0 && t 0 || g 1 && t 1 || g 2 && t 2 || g 3 && t 3 ≡ false → (i : ℕ) → i < 4 → g i ≡ true → t i ≡ false

@@ -4,8 +4,8 @@ use Prim.Native.Nat.{ℕ, _*_, _≤_}
 use mathlib.Core.Path.{_≡_}
 use mathlib.Core.List.{List, [], _∷_}
 use lib.ListN.{length}
-use Rattle.exact.specs.Ship.{Deadweight, Kind, bulk, gas, tanker, container, refrigerated, combination, vehicle, Consumption, recorded, neither, Engine, Auxiliary}
-use Rattle.exact.specs.Ship.{rule, table, Method, declared, trial, design-trial, statistical, Figures}
+use Rattle.exact.specs.Ship.{Deadweight, Kind, bulk, gas, tanker, container, refrigerated, combination, vehicle, general, Consumption, recorded, neither, Engine, Auxiliary}
+use Rattle.exact.specs.Ship.{rule, table, Method, declared, trial, design-trial, statistical, Hull, Crane, Figures}
 use Rattle.exact.specs.Ranges.{Range, engines-at, low, high, Settled}
 use Rattle.exact.specs.Index.{Capacity, sum-P-ME}
 
@@ -55,6 +55,7 @@ By-design-draught gas = ⊥
 By-design-draught refrigerated = ⊥
 By-design-draught combination = ⊥
 By-design-draught vehicle = ⊥
+By-design-draught general = ⊥
 
 -- A trial's speed and power, where P is the sum of P_ME in hundredths of a kW.
 pub record Tried (v : Range) (kW P : ℕ) : Type 0 where
@@ -68,6 +69,25 @@ Sailed (trial speed power) kind dwt P = Tried speed power P
 Sailed (design-trial speed power tested) kind dwt P = Tried speed power P × Near (100 * tested .tonnes) (Capacity kind dwt) × By-design-draught kind
 Sailed statistical kind dwt P = Unit {0}
 
+-- Of a general cargo ship no speed is a range (refusal 14); by a trial none ever is.
+abbrev pub Firm : Method Range → Type 0
+Firm (declared speed) = speed .low ≡ speed .high
+Firm (trial speed power) = Unit {0}
+Firm (design-trial speed power tested) = Unit {0}
+Firm statistical = Unit {0}
+
+-- The hull of a general cargo ship: her volume is at most length times breadth times draught.
+pub record Shaped (h : Hull) : Type 0 where
+  pub volume : Within 100 1000000 (h .volume)
+  pub length : Within 1000 50000 (h .length)
+  pub breadth : Within 200 10000 (h .breadth)
+  pub draught : Within 50 4000 (h .draught)
+  pub inside : h .volume * 1000000 ≤ h .length * h .breadth * h .draught
+
+pub record Geared (c : Crane) : Type 0 where
+  pub swl : Within 1 10000 (c .swl)
+  pub reach : Within 1 10000 (c .reach)
+
 pub record Accepted-figures (f : Figures Range) : Type 0 where
   pub deadweight : Within 100 600000 (f .ship .deadweight .tonnes)
   pub gross : f .ship .kind ≡ vehicle → Within 100 400000 (f .ship .gross .gt)
@@ -80,3 +100,8 @@ pub record Accepted-figures (f : Figures Range) : Type 0 where
   pub power-high : Within 7500 36000000 (sum-P-ME (engines-at high (f .engines)))
   pub method : Sailed (f .method) (f .ship .kind) (f .ship .deadweight) (sum-P-ME (engines-at low (f .engines)))
   pub settled : Settled (f .method) (f .engines)
+  pub firm : f .ship .kind ≡ general → Firm (f .method)
+  pub lightweight : f .ship .lightweight ≤ 200000
+  pub hull : f .ship .kind ≡ general → Shaped (f .ship .hull)
+  pub cranes : Each Geared (f .ship .cranes)
+  pub few : length (f .ship .cranes) ≤ 8

@@ -9,6 +9,8 @@ use Rattle.exact.specs.Ship as exact
 use Rattle.exact.specs.Ranges as ranges
 use Rattle.formula.specs.Words.{if}
 use Rattle.ship.specs.declared.Deadweight.{Deadweight}
+use Rattle.ship.specs.declared.Hull.{Hull}
+use Rattle.ship.specs.declared.Crane.{Crane}
 use Rattle.ship.specs.declared.Range.{Range}
 use Rattle.ship.specs.declared.Consumption.{Consumption}
 use Rattle.ship.specs.declared.Engine.{Engine}
@@ -18,7 +20,7 @@ use Rattle.ship.specs.Accepted.{Within}
 
 -- Types and fuels by number, from 1.
 abbrev pub kinds : List exact.Kind
-kinds = exact.bulk ∷ exact.gas ∷ exact.tanker ∷ exact.container ∷ exact.refrigerated ∷ exact.combination ∷ exact.vehicle ∷ []
+kinds = exact.bulk ∷ exact.gas ∷ exact.tanker ∷ exact.container ∷ exact.refrigerated ∷ exact.combination ∷ exact.vehicle ∷ exact.general ∷ []
 
 abbrev pub kind-of : ℕ → exact.Kind
 kind-of n = getD kinds (n - 1) exact.bulk
@@ -48,6 +50,16 @@ range-of r = record { low = r .low; high = r .high }
 
 abbrev pub deadweight-of : Deadweight → exact.Deadweight
 deadweight-of d = record { tonnes = d .tonnes }
+
+abbrev pub hull-of : Hull → exact.Hull
+hull-of h = record { volume = h .volume; length = h .length; breadth = h .breadth; draught = h .draught }
+
+abbrev pub crane-of : Crane → exact.Crane
+crane-of c = record { swl = c .swl; reach = c .reach }
+
+-- The cranes that are used.
+unfoldable pub cranes-of : ℕ → List Crane → List exact.Crane
+cranes-of used cs = map crane-of (take used cs)
 
 -- Sources 1 and 2 have a consumption of their own, source 3 has none.
 unfoldable pub uses-of : Consumption → exact.Consumption ranges.Range
@@ -90,6 +102,9 @@ figures s =
         cargo = p .cargo;
         auxiliary = auxiliary-of (p .supply) (p .table);
         ice = ice-of (p .ice);
+        lightweight = p .build .lightweight;
+        hull = hull-of (p .build .hull);
+        cranes = cranes-of (p .build .cranes) (p .build .gear);
       };
       engines = mains (p .used) (s .engines);
       auxiliary-uses = uses-of (s .auxiliary);

@@ -1,6 +1,29 @@
--- An engine entry that is not used.
+-- Entries that are not used, and what stands where layout 2 adds nothing.
 -- Assumes nothing.
+use mathlib.Core.Path.{_≡_}
+use mathlib.Core.List.{[], _∷_}
+use lib.ListN.{length}
 use Rattle.ship.specs.declared.Engine.{Engine}
+use Rattle.ship.specs.declared.Crane.{Crane}
+use Rattle.ship.specs.declared.Build.{Build}
+use Rattle.ship.specs.declared.Ship.{Ship}
 
 abbrev pub no-engine : Engine
 no-engine = record { mcr = record { low = 0; high = 0 }; limit = 0; uses = record { sfc = record { low = 0; high = 0 }; fuel = 0; source = 0 } }
+
+abbrev pub no-crane : Crane
+no-crane = record { swl = 0; reach = 0 }
+
+abbrev pub no-build : Build
+no-build =
+    record {
+      lightweight = 0;
+      hull = record { volume = 0; length = 0; breadth = 0; draught = 0 };
+      cranes = 0;
+      gear = no-crane ∷ no-crane ∷ no-crane ∷ no-crane ∷ no-crane ∷ no-crane ∷ no-crane ∷ no-crane ∷ [];
+    }
+
+-- Every value of the type has four engine entries and eight crane entries, used or not.
+pub record Entries (s : Ship) : Type 0 where
+  pub engines : length (s .engines) ≡ 4
+  pub gear : length (s .particulars .build .gear) ≡ 8

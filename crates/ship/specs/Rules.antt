@@ -1,13 +1,13 @@
--- The refusals of a record, 4 to 16: each definition says when its refusal is given, and one list has them in order of checking.
+-- The refusals of a record, 3 to 16 and 18: each definition says when its refusal is given, and one list has them in order of checking.
 -- Assumes nothing.
-use Prim.Native.Nat.{ℕ, _+_, _*_, _/_, _%_}
+use Prim.Native.Nat.{ℕ, zero, suc, _+_, _*_, _/_, _%_}
 use mathlib.Core.List.{List, [], _∷_, _++_}
 use mathlib.Core.Bool.{Bool, false, _&&_, _||_, not}
 use lib.ListN.{getD, length}
 use lib.Dec.{eqb, ltb, leb}
 use Rattle.exact.specs.Index.{Capacity, sum-P-ME}
 use Rattle.exact.specs.Ranges.{engines-at, low}
-use Rattle.ship.specs.Record.{no-engine}
+use Rattle.ship.specs.Record.{no-engine, no-crane}
 use Rattle.ship.specs.Refusals.{first-of}
 use Rattle.ship.specs.Figures.{kinds, kind-of, last-ice, deadweight-of, mains}
 use Rattle.ship.specs.declared.Deadweight.{Deadweight}
@@ -15,6 +15,9 @@ use Rattle.ship.specs.declared.GrossTonnage.{GrossTonnage}
 use Rattle.ship.specs.declared.Range.{Range}
 use Rattle.ship.specs.declared.Consumption.{Consumption}
 use Rattle.ship.specs.declared.Engine.{Engine}
+use Rattle.ship.specs.declared.Hull.{Hull}
+use Rattle.ship.specs.declared.Crane.{Crane}
+use Rattle.ship.specs.declared.Build.{Build}
 use Rattle.ship.specs.declared.Particulars.{Particulars}
 use Rattle.ship.specs.declared.Ship.{Ship}
 use Rattle.ship.specs.declared.Refusal.{Refusal}
@@ -47,7 +50,16 @@ any-unused t n es =
     || leb n 2 && t (getD es 2 no-engine)
     || leb n 3 && t (getD es 3 no-engine)
 
+-- One of the entries 0 to n - 1 has t.
+abbrev pub any-below : (ℕ → Bool) → ℕ → Bool
+any-below t zero = false
+any-below t (suc n) = any-below t n || t n
+
 -- ── Given exactly when ──────────────────────────────────────────────────────────────────────
+
+-- 3: layout not 1 or 2.
+abbrev pub layout-refused : ℕ → Bool
+layout-refused layout = outside 1 2 layout
 
 -- The first six of seven digits weighted 7, 6, 5, 4, 3, 2 and summed.
 abbrev pub weighted : ℕ → ℕ
@@ -58,9 +70,9 @@ weighted n =
 abbrev pub imo-refused : ℕ → Bool
 imo-refused n = outside 1000000 9999999 n || not (eqb (weighted n % 10) (n % 10))
 
--- 5: type not 1–7.
-abbrev pub type-refused : ℕ → Bool
-type-refused kind = outside 1 (length kinds) kind
+-- 5: type not 1–8, or 8 in another layout than 2.
+abbrev pub type-refused : ℕ → ℕ → Bool
+type-refused layout kind = outside 1 (length kinds) kind || ltb 7 kind && not (eqb layout 2)
 
 -- 6: deadweight not 100–600,000.
 abbrev pub deadweight-refused : Deadweight → Bool
@@ -111,19 +123,20 @@ speed-refused method kind speed =
     || between 1 3 method && (outside 500 6000 (speed .low) || outside 500 6000 (speed .high))
     || eqb method 4 && (nonzero (speed .low) || nonzero (speed .high))
 
--- 14: outside unused engine entries: a low end above its high; methods 2–4 with speed or MCR ends that differ.
+-- 14: outside unused engine entries: a low end above its high; methods 2–4 with speed or MCR ends that differ; type 8 with speed
+-- ends that differ.
 abbrev pub crossed : Range → Bool
 crossed r = ltb (r .high) (r .low)
 
-abbrev pub range-refused : ℕ → Range → Bool
-range-refused method r = crossed r || between 2 4 method && not (eqb (r .low) (r .high))
+abbrev pub range-refused : Bool → Range → Bool
+range-refused single r = crossed r || single && not (eqb (r .low) (r .high))
 
 abbrev pub engine-crossed : ℕ → Engine → Bool
-engine-crossed method e = range-refused method (e .mcr) || crossed (e .uses .sfc)
+engine-crossed method e = range-refused (between 2 4 method) (e .mcr) || crossed (e .uses .sfc)
 
 abbrev pub ranges-refused : Ship → Bool
 ranges-refused s =
-    range-refused (s .particulars .method) (s .speed) || crossed (s .auxiliary .sfc)
+    range-refused (between 2 4 (s .particulars .method) || eqb (s .particulars .kind) 8) (s .speed) || crossed (s .auxiliary .sfc)
     || any-used (engine-crossed (s .particulars .method)) (s .particulars .used) (s .engines)
 
 -- A whole number and one of hundredths: either is above 5 times the other.
@@ -143,7 +156,7 @@ trial-refused p es =
     || eqb method 2 && nonzero load
     || eqb method 3 && (eqb load 0 || apart load (Capacity (kind-of (p .kind)) (deadweight-of (p .deadweight))))
 
--- 16: an unused engine entry isn't zero.
+-- 16: an unused engine entry isn't zero; in layout 1, a figure that layout 2 adds isn't.
 abbrev pub occupied : Engine → Bool
 occupied e =
     nonzero (e .mcr .low) || nonzero (e .mcr .high) || nonzero (e .limit) || nonzero (e .uses .sfc .low) || nonzero (e .uses .sfc .high)
@@ -153,14 +166,52 @@ occupied e =
 abbrev pub unused-refused : ℕ → List Engine → Bool
 unused-refused used es = any-unused occupied used es
 
+abbrev pub lifting : Crane → Bool
+lifting c = nonzero (c .swl) || nonzero (c .reach)
+
+abbrev pub shaped : Hull → Bool
+shaped h = nonzero (h .volume) || nonzero (h .length) || nonzero (h .breadth) || nonzero (h .draught)
+
+unfoldable pub built : Build → Bool
+built b = nonzero (b .lightweight) || shaped (b .hull) || nonzero (b .cranes) || any-below (λ i. lifting (getD (b .gear) i no-crane)) 8
+
+abbrev pub newer-refused : ℕ → Build → Bool
+newer-refused layout b = eqb layout 1 && built b
+
+-- 18: lightweight neither 0 nor, for types 1 and 3, 100–200,000.
+abbrev pub lightweight-refused : ℕ → ℕ → Bool
+lightweight-refused kind n = nonzero n && (not (eqb kind 1) && not (eqb kind 3) || outside 100 200000 n)
+
+-- 18: a used load or reach not 1–10,000, an unused one not 0; cranes above 8, or any with another type than 8.
+abbrev pub crane-refused : ℕ → ℕ → Crane → Bool
+crane-refused used i c = ltb i used && (outside 1 10000 (c .swl) || outside 1 10000 (c .reach)) || leb used i && lifting c
+
+abbrev pub cranes-refused : ℕ → ℕ → List Crane → Bool
+cranes-refused kind used cs =
+    ltb 8 used || not (eqb kind 8) && nonzero used || any-below (λ i. crane-refused used i (getD cs i no-crane)) 8
+
+-- 18: type 8: a length not 10–500 m, a breadth not 2–100, a draught not 0.5–40, or a volume not 100–1,000,000 or above their
+-- product; others: any of these four not 0.
+abbrev pub size-refused : Hull → Bool
+size-refused h =
+    outside 1000 50000 (h .length) || outside 200 10000 (h .breadth) || outside 50 4000 (h .draught) || outside 100 1000000 (h .volume)
+
+abbrev pub hull-refused : ℕ → Hull → Bool
+hull-refused kind h =
+    eqb kind 8 && (size-refused h || ltb (h .length * h .breadth * h .draught) (h .volume * 1000000)) || not (eqb kind 8) && shaped h
+
+unfoldable pub build-refused : ℕ → Build → Bool
+build-refused kind b = lightweight-refused kind (b .lightweight) || cranes-refused kind (b .cranes) (b .gear) || hull-refused kind (b .hull)
+
 -- ── In order of checking ────────────────────────────────────────────────────────────────────
 
--- 4 to 8, of the hull.
+-- 3 to 8, of the layout and the hull.
 unfoldable pub hull-tests : Ship → List (Bool × Refusal)
 hull-tests s =
     let p = s .particulars in
-    (imo-refused (p .imo), refusal.ImoNumber)
-    ∷ (type-refused (p .kind), refusal.ShipType)
+    (layout-refused (p .layout), refusal.Layout)
+    ∷ (imo-refused (p .imo), refusal.ImoNumber)
+    ∷ (type-refused (p .layout) (p .kind), refusal.ShipType)
     ∷ (deadweight-refused (p .deadweight), refusal.Deadweight)
     ∷ (gross-refused (p .kind) (p .gross), refusal.GrossTonnage)
     ∷ (volume-refused (p .kind) (p .cargo), refusal.CargoVolume)
@@ -179,12 +230,13 @@ plant-tests s =
     ∷ (ranges-refused s, refusal.Ranges)
     ∷ []
 
--- 15 and 16. Whether a byte that must be zero isn't is what a block brings to 16; a record has no such byte.
+-- 15, 16 and 18. Whether a byte that must be zero isn't is what a block brings to 16; a record has no such byte.
 unfoldable pub trial-tests : Bool → Ship → List (Bool × Refusal)
 trial-tests zeros s =
     let p = s .particulars in
     (trial-refused p (s .engines), refusal.Trial)
-    ∷ (zeros || unused-refused (p .used) (s .engines), refusal.Unused)
+    ∷ (zeros || unused-refused (p .used) (s .engines) || newer-refused (p .layout) (p .build), refusal.Unused)
+    ∷ (build-refused (p .kind) (p .build), refusal.Build)
     ∷ []
 
 -- Those that calculate nothing, and all of them.

@@ -2,7 +2,7 @@
 -- Assumes nothing.
 use Prim.Native.Nat.{ℕ}
 use mathlib.Core.List.{[], _∷_}
-use Rattle.ship.specs.Record.{no-engine}
+use Rattle.ship.specs.Record.{no-engine, no-crane}
 use Rattle.ship.specs.Ends.{just}
 use Rattle.ship.specs.declared.Range.{Range}
 use Rattle.ship.specs.declared.Consumption.{Consumption}
@@ -12,9 +12,9 @@ use Rattle.ship.specs.declared.Ship.{Ship}
 abbrev pub reported : Range → ℕ → Consumption
 reported sfc fuel = record { sfc = sfc; fuel = fuel; source = 1 }
 
--- With its ice class, its main engine's consumption and its speed.
-abbrev pub S : ℕ → Consumption → Range → Ship
-S ice uses speed =
+-- With its layout, its ice class, its lightweight, its main engine's consumption and its speed.
+abbrev pub S-in : ℕ → ℕ → ℕ → Consumption → Range → Ship
+S-in layout ice lightweight uses speed =
     record {
       particulars = record {
         imo = 9074729;
@@ -28,8 +28,18 @@ S ice uses speed =
         table = 0;
         ice = ice;
         used = 1;
+        layout = layout;
+        build = record {
+          lightweight = lightweight;
+          hull = record { volume = 0; length = 0; breadth = 0; draught = 0 };
+          cranes = 0;
+          gear = no-crane ∷ no-crane ∷ no-crane ∷ no-crane ∷ no-crane ∷ no-crane ∷ no-crane ∷ no-crane ∷ [];
+        };
       };
       speed = speed;
       auxiliary = reported (just 2000) 1;
       engines = record { mcr = just 8000; limit = 0; uses = uses } ∷ no-engine ∷ no-engine ∷ no-engine ∷ [];
     }
+
+abbrev pub S : ℕ → Consumption → Range → Ship
+S ice = S-in 1 ice 0

@@ -40,6 +40,28 @@ pub struct Trial {
     pub deadweight: Deadweight,
 }
 
+// Displacement volume in m³; length, breadth and draught in 1/100 m.
+pub struct Hull {
+    pub volume: u64,
+    pub length: u64,
+    pub breadth: u64,
+    pub draught: u64,
+}
+
+// Safe working load in tonnes and reach in metres, in tenths.
+pub struct Crane {
+    pub swl: u64,
+    pub reach: u64,
+}
+
+// What layout 2 adds: lightweight in tonnes; the first `cranes` crane entries count.
+pub struct Build {
+    pub lightweight: u64,
+    pub hull: Hull,
+    pub cranes: u64,
+    pub gear: [Crane; 8],
+}
+
 // What is never a range. Volume in m³; auxiliary power 1 is by the rule, 2 the table's kW; the first `used` engine entries count.
 pub struct Particulars {
     pub imo: u64,
@@ -53,6 +75,8 @@ pub struct Particulars {
     pub table: u64,
     pub ice: u64,
     pub used: u64,
+    pub layout: u64,
+    pub build: Build,
 }
 
 // Speed in 1/100 knot. Four engine entries stand in every record, used or not.
@@ -82,6 +106,7 @@ pub enum Refusal {
     Ranges,
     Trial,
     Unused,
+    Build,
     NoBlock,
 }
 
@@ -108,6 +133,7 @@ pub fn number(refusal: Refusal) -> u8
         Refusal::Trial => 15,
         Refusal::Unused => 16,
         Refusal::NoBlock => 17,
+        Refusal::Build => 18,
     }
 }
 

@@ -9,13 +9,16 @@ use Rattle.hull_rules.proofs.hull_refusal.Tie as tie
 returns : tie.Need-returns
 unfolding first-of hull-tests
 returns c =
-    let kind = c .before .before in
+    let imo = c .before .before in
+    let kind = imo .before .before in
     let weight = kind .before .before in
     let tonnage = weight .before .before in
     let cargo = tonnage .before .before in
     rw (
-      c .first5 .ensures,
-      c .before .imo-broken .ensures,
+      c .first6 .ensures,
+      c .before .layout-broken .ensures,
+      imo .first5 .ensures,
+      imo .before .imo-broken .ensures,
       kind .first4 .ensures,
       kind .before .type-broken .ensures,
       weight .first3 .ensures,
@@ -31,4 +34,4 @@ hull-refusal-spec =
     tie.close
     (tie.spec
     (λ c κs. search needs) (λ c κs. search needs) (λ c κs. search needs) (λ c κs. search needs) (λ c κs. search needs) (λ c κs. search needs)
-    (λ c κs. search needs) (λ c κs. search needs) (λ c κs. search needs) (λ c κs. search needs) returns)
+    (λ c κs. search needs) (λ c κs. search needs) (λ c κs. search needs) (λ c κs. search needs) (λ c κs. search needs) (λ c κs. search needs) returns)

@@ -1,15 +1,16 @@
 -- `layout::particulars_in` meets its contract.
 -- Assumes nothing.
 use Rattle.fields.specs.Runs.{numbers-at}
-use Rattle.layout.specs.Layout.{head, entry, entries, fields, widths, numbers-in}
+use Rattle.layout.specs.Layout.{head, entry, entries, cranes, added, newer, fields, widths, numbers-in, build-from}
 use borrow.Author.Needs.{needs}
 use Rattle.layout.proofs.particulars_in.Statement.{statement}
 use Rattle.layout.proofs.particulars_in.Tie as tie
 
 returns : tie.Need-returns
-unfolding numbers-in numbers-at widths fields head entries entry
+unfolding numbers-in numbers-at widths fields head entries entry build-from cranes added newer
 returns c =
-    let c9 = c .before .before .before in
+    let c12 = c .before .before in
+    let c9 = c12 .before .before .before in
     let c6 = c9 .before .before .before in
     let c3 = c6 .before .before .before in
     λ i. record {
@@ -21,9 +22,11 @@ returns c =
       method = c9 .before .number-at8 .ensures i;
       trial = record { power = c3 .before .before .number-at .ensures i; deadweight = record { tonnes = c3 .before .number-at2 .ensures i } };
       supply = c9 .number-at9 .ensures i;
-      table = c .before .before .number-at10 .ensures i;
-      ice = c .before .number-at11 .ensures i;
-      used = c .number-at12 .ensures i;
+      table = c12 .before .before .number-at10 .ensures i;
+      ice = c12 .before .number-at11 .ensures i;
+      used = c12 .number-at12 .ensures i;
+      layout = c .before .number-at13 .ensures i;
+      build = c .build-in .ensures i;
     }
 
 pub particulars-in-spec : {M : Type 1} → statement M
@@ -31,4 +34,4 @@ particulars-in-spec =
     tie.close
     (tie.spec
     (λ c κs. search needs) (λ c κs. search needs) (λ c κs. search needs) (λ c κs. search needs) (λ c κs. search needs) (λ c κs. search needs)
-    (λ c κs. search needs) (λ c κs. search needs) (λ c κs. search needs) (λ c κs. search needs) (λ c κs. search needs) (λ c κs. search needs) returns)
+    (λ c κs. search needs) (λ c κs. search needs) (λ c κs. search needs) (λ c κs. search needs) (λ c κs. search needs) (λ c κs. search needs) (λ c κs. search needs) (λ c κs. search needs) returns)

@@ -4,23 +4,23 @@ use mathlib.Core.Path.{refl}
 use mathlib.Core.List.{[], _++_}
 use Rattle.fields.specs.Runs.{pack, total}
 use Rattle.fields.proofs.Runs.{then-run, run-written}
-use Rattle.layout.specs.Layout.{head, entry, entries, newer, fields, body}
+use Rattle.layout.specs.Layout.{head, entry, entries, cranes, added, newer, fields, body}
 use borrow.Author.Needs.{needs}
 use Rattle.layout.proofs.write_body.Statement.{statement}
 use Rattle.layout.proofs.write_body.Tie as tie
 
 returns : tie.Need-returns
-unfolding body fields head entries entry newer total pack
+unfolding body fields head entries entry cranes added newer total pack
 returns c =
     let c-newer = c .before .before in
     let c-entries = c-newer .before .before .before .before in
     let c-head = c-entries .before .before .before .before in
-    let start = c-head .before .before .before .before in
+    let start = c-head .before .before .before .before .before in
     let s = start .args .s in
     let d = start .args .part .now in
     let s1 = then-run [] (head s) d 0 52 refl refl (c-head .write-head .ensures) in
     let s2 = then-run (head s) (entries (s .engines)) d 52 80 refl s1 (c-entries .write-entries .ensures) in
-    let s3 = then-run (head s ++ entries (s .engines)) (newer s) d 132 376 refl s2 (c-newer .write-newer .ensures) in
+    let s3 = then-run (head s ++ entries (s .engines)) (newer (s .particulars .build)) d 132 376 refl s2 (c-newer .write-newer .ensures) in
     run-written (fields s) d (start .pre) s3
 
 pub write-body-spec : {M : Type 1} → statement M

@@ -1,9 +1,9 @@
 -- `rules::trial_broken` meets its contract.
 -- Assumes nothing.
-use Rattle.ship.specs.Rules.{trial-refused}
 use lib.ListN.{length}
 use Rattle.ship.specs.Figures.{kinds}
-use Rattle.ship.proofs.Tests.{inside, engines-inside}
+use Rattle.ship.specs.Rules.{outside, trial-refused}
+use Rattle.ship.proofs.Tests.{neither, inside, engines-inside}
 use borrow.Author.Needs.{needs}
 use Rattle.rules.proofs.trial_broken.Statement.{statement}
 use Rattle.rules.proofs.trial_broken.Tie as tie
@@ -17,7 +17,7 @@ power-sums-requires c κs =
 capacity-of-requires : tie.Need-capacity-of-requires
 capacity-of-requires c κs =
     let start = c .before .before .before in
-    (inside 1 (length kinds) (start .args .p .kind) (start .pre .0), inside 100 600000 (start .args .p .deadweight .tonnes) (start .pre .1) .most)
+    (inside 1 (length kinds) (start .args .p .kind) (neither (outside 1 (length kinds) (start .args .p .kind)) _ (start .pre .0) .0), inside 100 600000 (start .args .p .deadweight .tonnes) (start .pre .1) .most)
 
 returns : tie.Need-returns
 unfolding trial-refused

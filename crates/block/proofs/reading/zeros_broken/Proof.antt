@@ -17,7 +17,7 @@ returns c =
     || c3 .not-zero3 .ensures i
     || c .before .before .not-zero4 .ensures i
     || c .before .not-zero5 .ensures i
-    || c .newer-broken .ensures i
+    || c .rest-broken .ensures i
 
 pub zeros-broken-spec : {M : Type 1} → statement M
 zeros-broken-spec =
