@@ -1,6 +1,6 @@
 -- How the emissions grow: larger consumptions and rated powers give no less, and the figures of an accepted record keep them in bounds.
 -- Assumes nothing.
-use Prim.Native.Nat.{ℕ, _*_, _≤_}
+use Prim.Native.Nat.{ℕ, _+_, _*_, _≤_}
 use mathlib.Core.Path.{_≡_, refl}
 use mathlib.Core.Bool.{Bool, true, false}
 use mathlib.Core.List.{List}
@@ -9,7 +9,7 @@ use native.Mathlib.Nat.{mul-le-mul, mul-le-mul-left, add-le-add, le-refl}
 use lib.Dec.{lit≤}
 use lib.ListN.{length}
 use Rattle.exact.specs.Ship.{Fuel, diesel, light, heavy, propane, butane, lng, methanol, ethanol, Consumption, recorded, neither, Engine, Auxiliary, rule, table}
-use Rattle.exact.specs.Ship.{Particulars, Figures}
+use Rattle.exact.specs.Ship.{Kind, bulk, gas, tanker, container, refrigerated, combination, vehicle, general, Particulars, Figures}
 use Rattle.exact.specs.Index.{C-F, sum-P-ME, rated, Capacity}
 use Rattle.exact.specs.Ranges.{Range, Uses, same-fuel, no-source, Engines, no-more, one-more, alike, Inside, most-favourable, least-favourable, uses-at, engines-at}
 use Rattle.exact.specs.Ranges.{ship-at, low, high}
@@ -18,7 +18,7 @@ use Rattle.exact.proofs.Rules.{by-rule-min, Capacity-between, f-m-between}
 use Rattle.ship.specs.Accepted as figures-accepted
 use Rattle.ship.specs.Accepted.{Within, Ends, Measured, Rated, Each, Supplied, Accepted-figures}
 use Rattle.ship.proofs.Figured.{power-within}
-use Rattle.plant.specs.Plant.{end, at-end, grams, main-grams, auxiliary-power, main-N, auxiliary-N, N, load-of}
+use Rattle.plant.specs.Plant.{end, at-end, grams, main-grams, auxiliary-power, main-N, auxiliary-N, allowance-of, load-of}
 
 -- ── The two ends ────────────────────────────────────────────────────────────────────────────
 
@@ -43,20 +43,32 @@ unfolding auxiliary-power
 auxiliary-mono rule {m} {m'} h = rw (by-rule-min m, by-rule-min m') (omega arith)
 auxiliary-mono (table kW) h = le-refl _
 
-pub N-mono : (f f' : Figures ℕ) → f .ship .auxiliary ≡ f' .ship .auxiliary → Engines _≤_ (f .engines) (f' .engines)
-    → Uses _≤_ (f .auxiliary-uses) (f' .auxiliary-uses) → N f ≤ N f'
-unfolding main-N auxiliary-N
-N-mono f f' same e c =
-    rw same
-    (add-le-add (mul-le-mul-left 10 (main-mono e)) (mul-le-mul (auxiliary-mono (f' .ship .auxiliary) (rated-mono e)) (grams-mono 215 c)))
+main-N-mono : (f f' : Figures ℕ) → Engines _≤_ (f .engines) (f' .engines) → main-N f ≤ main-N f'
+unfolding main-N
+main-N-mono f f' e = mul-le-mul-left 10 (main-mono e)
+
+auxiliary-N-mono : (f f' : Figures ℕ) → f .ship .auxiliary ≡ f' .ship .auxiliary → Engines _≤_ (f .engines) (f' .engines)
+    → Uses _≤_ (f .auxiliary-uses) (f' .auxiliary-uses) → auxiliary-N f ≤ auxiliary-N f'
+unfolding auxiliary-N
+auxiliary-N-mono f f' same e c = rw same (mul-le-mul (auxiliary-mono (f' .ship .auxiliary) (rated-mono e)) (grams-mono 215 c))
 
 -- A ship inside the ranges emits no less than the one at the low end, and no more than the one at the high end.
-pub N-inside : {r : Figures Range} {f : Figures ℕ} → Inside r f → (N (at-end false r) ≤ N f) × (N f ≤ N (at-end true r))
+pub record Between (n : Figures ℕ → ℕ) (r : Figures Range) (f : Figures ℕ) : Type 0 where
+  pub from : n (at-end false r) ≤ n f
+  pub to : n f ≤ n (at-end true r)
+
+pub main-inside : {r : Figures Range} {f : Figures ℕ} → Inside r f → Between main-N r f
 unfolding ship-at
-N-inside (alike e c v) = (
-  N-mono _ _ refl (engines-end low (λ r n h. h .0) e) (uses-end low (λ r n h. h .0) c),
-  N-mono _ _ refl (turn-engines (engines-end high (λ r n h. h .1) e)) (turn-uses (uses-end high (λ r n h. h .1) c)),
-)
+main-inside (alike e c v) =
+    record { from = main-N-mono _ _ (engines-end low (λ r n h. h .0) e); to = main-N-mono _ _ (turn-engines (engines-end high (λ r n h. h .1) e)) }
+
+pub auxiliary-inside : {r : Figures Range} {f : Figures ℕ} → Inside r f → Between auxiliary-N r f
+unfolding ship-at
+auxiliary-inside (alike e c v) =
+    record {
+      from = auxiliary-N-mono _ _ refl (engines-end low (λ r n h. h .0) e) (uses-end low (λ r n h. h .0) c);
+      to = auxiliary-N-mono _ _ refl (turn-engines (engines-end high (λ r n h. h .1) e)) (turn-uses (uses-end high (λ r n h. h .1) c));
+    }
 
 -- ── Within bounds ───────────────────────────────────────────────────────────────────────────
 
@@ -113,20 +125,37 @@ unfolding auxiliary-power
 auxiliary-most rule {mcr} s h = rw (by-rule-min mcr) (omega arith)
 auxiliary-most (table kW) s h = omega (arith, s .most)
 
--- The emissions at either end of an accepted record are some, and fit a double without loss.
-pub N-within : (top : Bool) {f : Figures Range} → Accepted-figures f → Within 1 6000000000000000 (N (at-end top f))
+-- The emissions at either end of an accepted record: the main engines' are some, and both together fit a double without loss.
+pub record Emitting (f : Figures ℕ) : Type 0 where
+  pub some : 51562500000 ≤ main-N f
+  pub most : main-N f + auxiliary-N f ≤ 6000000000000000
+
+pub emitting : (top : Bool) {f : Figures Range} → Accepted-figures f → Emitting (at-end top f)
 unfolding main-N auxiliary-N ship-at
-N-within top {f} a =
+emitting top {f} a =
     let b = bounded top (a .engines) in
     let k = a .count in
     let g = grams-within top 215 (record { least = lit≤ tt; most = lit≤ tt }) (f .auxiliary-uses) (a .auxiliary-uses) in
     let m = mul-le-mul (auxiliary-most (f .ship .auxiliary) {mcr = rated (engines-at (end top) (f .engines))} (a .auxiliary) (omega (arith, b .rated, k .most))) (g .most) in
-    record { least = omega (arith, b .grams .least, k .least); most = omega (arith, b .grams .most, k .most, m) }
+    record { some = omega (arith, b .grams .least, k .least); most = omega (arith, b .grams .most, k .most, m) }
 
-pub load-within : (s : Particulars) → Within 100 600000 (s .deadweight .tonnes) → Within 700000 6300000000 (load-of s)
+allowance-most : (kind : Kind) (lightweight : ℕ) → allowance-of kind lightweight ≤ 8 * lightweight
+unfolding allowance-of
+allowance-most bulk n = omega arith
+allowance-most tanker n = omega arith
+allowance-most gas n = omega arith
+allowance-most container n = omega arith
+allowance-most refrigerated n = omega arith
+allowance-most combination n = omega arith
+allowance-most vehicle n = omega arith
+allowance-most general n = omega arith
+
+pub load-within : (s : Particulars) → Within 100 600000 (s .deadweight .tonnes) → s .lightweight ≤ 200000 → Within 700000 6468000000 (load-of s)
 unfolding load-of
-load-within s w =
+load-within s w h =
     let c = Capacity-between (s .kind) (s .deadweight) in
     let f = f-m-between (s .ice) in
-    let k : Within 7000 60000000 (Capacity (s .kind) (s .deadweight)) = record { least = omega (arith, w .least, c .0); most = omega (arith, w .most, c .1) } in
+    let l = allowance-most (s .kind) (s .lightweight) in
+    let k : Within 7000 61600000 (Capacity (s .kind) (s .deadweight) + allowance-of (s .kind) (s .lightweight)) =
+    record { least = omega (arith, w .least, c .0); most = omega (arith, w .most, c .1) } in
     product-within k (record { least = f .0; most = f .1 })

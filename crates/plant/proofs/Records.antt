@@ -53,5 +53,5 @@ module _ (s : Ship) (four : length (s .engines) ≡ 4) (none : refusal-of s ≡ 
       let n = a .count .most in
       rw e (record { mcr = omega (arith, b .rated, n); small = omega (arith, b .grams .most, n); main = refl; auxiliary = λ p q. rw (p, q) })
 
-  pub load-fits : load-of (figures s .ship) ≤ 6300000000
-  load-fits = load-within (figures s .ship) (figures-accepted s four none .deadweight) .most
+  pub load-fits : load-of (figures s .ship) ≤ 6468000000
+  load-fits = let a = figures-accepted s four none in load-within (figures s .ship) (a .deadweight) (a .lightweight) .most

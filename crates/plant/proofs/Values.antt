@@ -1,13 +1,16 @@
 -- The whole numbers are the values of the index's formulas.
 -- Assumes nothing.
-use Prim.Native.Nat.{ℕ}
+use Prim.Native.Nat.{ℕ, _+_, _*_, _<_}
 use mathlib.Core.List.{List, [], _∷_}
+use native.Mathlib.Nat.{suc-pred-eq-of-pos}
 use native.Mathlib.Omega.{arith}
-use Rattle.formula.specs.Formula.{_//_, Formula, Enclosed}
+use Rattle.formula.specs.Formula.{_//_, Formula, lit, _⊕_, _⊗_, _⊘_, Enclosed}
+use Rattle.formula.specs.Words.{whole, percent}
+use Rattle.exact.specs.Ship.{Deadweight, Kind, bulk, gas, tanker, container, refrigerated, combination, vehicle, general}
 use Rattle.exact.specs.Ship.{Consumption, recorded, neither, Engine, Auxiliary, rule, table, Particulars, Figures}
-use Rattle.exact.specs.Index.{emission, main-emission, P-AE, emissions, load}
-use Rattle.formula.proofs.Formulas.{enclosed-≈, enclosed-lit, enclosed-sum, enclosed-product}
-use Rattle.plant.specs.Plant.{grams, main-grams, auxiliary-power, main-N, auxiliary-N, N, load-of}
+use Rattle.exact.specs.Index.{emission, main-emission, rated, P-AE, Capacity, f-i, load}
+use Rattle.formula.proofs.Formulas.{enclosed-≈, enclosed-lit, enclosed-sum, enclosed-product, enclosed-quotient}
+use Rattle.plant.specs.Plant.{grams, main-grams, auxiliary-power, main-N, auxiliary-N, allowance-of, load-of}
 
 -- n k-ths is the value of a formula.
 abbrev pub Exactly : Formula → ℕ → ℕ → Type 0
@@ -28,13 +31,42 @@ unfolding P-AE auxiliary-power
 auxiliary-exact rule mcr = enclosed-lit _
 auxiliary-exact (table kW) mcr = enclosed-≈ (enclosed-lit _) (omega arith)
 
-pub emissions-exact : (f : Figures ℕ) → Exactly (emissions f) (N f) 10000000
-unfolding emissions main-N auxiliary-N
-emissions-exact f =
-    enclosed-≈
-    (enclosed-sum (main-exact (f .engines)) (enclosed-product (auxiliary-exact (f .ship .auxiliary) _) (grams-exact 215 (f .auxiliary-uses))))
-    (omega arith)
+-- The main engines' and the auxiliaries' emissions.
+pub main-N-exact : (f : Figures ℕ) → Exactly (main-emission (f .engines)) (main-N f) 10000000
+unfolding main-N
+main-N-exact f = enclosed-≈ (main-exact (f .engines)) (omega arith)
 
-pub load-exact : (s : Particulars) → Exactly (load s) (load-of s) 10000
+pub auxiliary-N-exact : (f : Figures ℕ) → Exactly (P-AE (f .ship .auxiliary) (rated (f .engines)) ⊗ emission 215 (f .auxiliary-uses)) (auxiliary-N f) 10000000
+unfolding auxiliary-N
+auxiliary-N-exact f = enclosed-≈ (enclosed-product (auxiliary-exact (f .ship .auxiliary) _) (grams-exact 215 (f .auxiliary-uses))) (omega arith)
+
+-- ── Capacity with its factors ───────────────────────────────────────────────────────────────
+
+-- Times Capacity f_i is Capacity and 8 % of the lightweight.
+module _ (dwt : Deadweight) (lightweight : ℕ) (some : 0 < dwt .tonnes) where
+  structural : Exactly (whole 1 ⊕ percent 8 ⊗ whole lightweight ⊘ whole (dwt .tonnes)) (100 * dwt .tonnes + 8 * lightweight) (100 * dwt .tonnes)
+  structural =
+      let pos : 0 < 100 * dwt .tonnes = omega arith in
+      enclosed-≈ (enclosed-sum (enclosed-lit _) (enclosed-quotient (enclosed-product (enclosed-lit _) (enclosed-lit _)) (enclosed-lit (dwt .tonnes // 1)) some))
+      (record { cross = rw (suc-pred-eq-of-pos pos) (omega arith) })
+
+  laden : (kind : Kind) → Exactly (f-i kind dwt lightweight ⊗ lit (Capacity kind dwt // 100)) (Capacity kind dwt + allowance-of kind lightweight) 100
+  unfolding f-i Capacity allowance-of
+  laden bulk = enclosed-≈ (enclosed-product structural (enclosed-lit _)) (record { cross = rw (suc-pred-eq-of-pos (pos)) (omega arith) })
+    where
+      pos : 0 < 100 * dwt .tonnes
+      pos = omega arith
+  laden tanker = enclosed-≈ (enclosed-product structural (enclosed-lit _)) (record { cross = rw (suc-pred-eq-of-pos (pos)) (omega arith) })
+    where
+      pos : 0 < 100 * dwt .tonnes
+      pos = omega arith
+  laden gas = enclosed-≈ (enclosed-product (enclosed-lit _) (enclosed-lit _)) (omega arith)
+  laden container = enclosed-≈ (enclosed-product (enclosed-lit _) (enclosed-lit _)) (omega arith)
+  laden refrigerated = enclosed-≈ (enclosed-product (enclosed-lit _) (enclosed-lit _)) (omega arith)
+  laden combination = enclosed-≈ (enclosed-product (enclosed-lit _) (enclosed-lit _)) (omega arith)
+  laden vehicle = enclosed-≈ (enclosed-product (enclosed-lit _) (enclosed-lit _)) (omega arith)
+  laden general = enclosed-≈ (enclosed-product (enclosed-lit _) (enclosed-lit _)) (omega arith)
+
+pub load-exact : (s : Particulars) → 0 < s .deadweight .tonnes → Exactly (load s) (load-of s) 10000
 unfolding load load-of
-load-exact s = enclosed-≈ (enclosed-product (enclosed-lit _) (enclosed-lit _)) (omega arith)
+load-exact s some = enclosed-≈ (enclosed-product (laden (s .deadweight) (s .lightweight) some (s .kind)) (enclosed-lit _)) (omega arith)

@@ -3,6 +3,7 @@
 use Prim.Native.Nat.{ℕ, _+_, _*_, _≤_}
 use mathlib.Core.Bool.{Bool, true, false, not}
 use mathlib.Core.List.{List, [], _∷_}
+use Rattle.exact.specs.Ship.{Kind, bulk, gas, tanker, container, refrigerated, combination, vehicle, general}
 use Rattle.exact.specs.Ship.{Consumption, recorded, neither, Engine, Auxiliary, rule, table, Particulars, Figures}
 use Rattle.exact.specs.Ranges.{Range, low, high, ship-at}
 use Rattle.exact.specs.Index.{C-F, P-ME, sum-P-ME, rated, by-rule, Capacity, f-m}
@@ -48,12 +49,20 @@ main-N f = 10 * main-grams (f .engines)
 unfoldable pub auxiliary-N : Figures ℕ → ℕ
 auxiliary-N f = auxiliary-power (f .ship .auxiliary) (rated (f .engines)) * grams 215 (f .auxiliary-uses)
 
-abbrev pub N : Figures ℕ → ℕ
-N f = main-N f + auxiliary-N f
+-- What f_i adds to Capacity under the common structural rules: 8 % of the lightweight, in 1/100 t.
+unfoldable pub allowance-of : Kind → ℕ → ℕ
+allowance-of bulk lightweight = 8 * lightweight
+allowance-of tanker lightweight = 8 * lightweight
+allowance-of gas lightweight = 0
+allowance-of container lightweight = 0
+allowance-of refrigerated lightweight = 0
+allowance-of combination lightweight = 0
+allowance-of vehicle lightweight = 0
+allowance-of general lightweight = 0
 
--- Capacity with f_m, in 10^-4 t.
+-- Capacity with f_i and f_m, in 10^-4 t.
 unfoldable pub load-of : Particulars → ℕ
-load-of s = Capacity (s .kind) (s .deadweight) * f-m (s .ice)
+load-of s = (Capacity (s .kind) (s .deadweight) + allowance-of (s .kind) (s .lightweight)) * f-m (s .ice)
 
 -- ── Of a record ─────────────────────────────────────────────────────────────────────────────
 

@@ -1,4 +1,4 @@
-// Power and emissions of a record's engines at both ends of every range, and its Capacity with f_m, in whole numbers.
+// Power and emissions of a record's engines at both ends of every range, and its Capacity with f_i and f_m, in whole numbers.
 use ship::Consumption;
 use ship::Engine;
 use ship::Range;
@@ -9,11 +9,11 @@ ghost use lib.ListN.{getD};
 ghost use Rattle.exact.specs.Index.{C-F, f-m};
 ghost use Rattle.exact.specs.Ranges.{low, high, uses-at, engines-at};
 ghost use Rattle.ship.specs.Record.{no-engine};
-ghost use Rattle.ship.specs.Figures.{range-of, ice-of, fuel-of, uses-of, Fuelled, entry-at, mains, auxiliary-of, figures};
+ghost use Rattle.ship.specs.Figures.{range-of, kind-of, Listed, ice-of, fuel-of, uses-of, Fuelled, entry-at, mains, auxiliary-of, figures};
 ghost use Rattle.ship.specs.Accepted.{Within, Measured, Supplied};
 ghost use Rattle.ship.specs.Rules.{refusal-of};
 ghost use Rattle.ship.specs.declared.Refusal.the-variants as refusal;
-ghost use Rattle.plant.specs.Plant.{end, Entered, Roomy, grams, auxiliary-power, load-of, sums-of, with-engine, ends-of, P-ME-of, emitted-of};
+ghost use Rattle.plant.specs.Plant.{end, Entered, Roomy, grams, auxiliary-power, allowance-of, load-of, sums-of, with-engine, ends-of, P-ME-of, emitted-of};
 
 // Over the main engines: MCR in kW, P_ME × C_F × SFC in 10^-6 g/h.
 struct Sums {
@@ -119,7 +119,7 @@ fn auxiliary_power(method: u64, table: u64, rated: u64) -> u64
     }
 }
 
-// The sum of P_ME of a record that rules 4 to 16 leave, in 1/100 kW, at both ends of its ranges.
+// The sum of P_ME of a record that rules 3 to 18 leave, in 1/100 kW, at both ends of its ranges.
 pub fn powers(s: Ship) -> Range
     requires { ⌜ refusal-of s ≡ refusal.None ⌝ }
     ensures { λ r. ⌜ r ≡ ends-of P-ME-of (figures s) ⌝ }
@@ -128,7 +128,7 @@ pub fn powers(s: Ship) -> Range
     ship::power::power_sums(engines, s.particulars.used)
 }
 
-// The emissions of a record that rules 4 to 16 leave, in 10^-7 g/h, at both ends of its ranges.
+// The emissions of a record that rules 3 to 18 leave, in 10^-7 g/h, at both ends of its ranges.
 pub fn emissions(s: Ship) -> Emitted
     requires { ⌜ refusal-of s ≡ refusal.None ⌝ }
     ensures { λ r. ⌜ r ≡ emitted-of (figures s) ⌝ }
@@ -155,12 +155,26 @@ fn ice_factor(ice: u64) -> u64
     if ice == 1 { 105 } else { 100 }
 }
 
-// Capacity with f_m, of a record that rules 4 to 16 leave, in 10^-4 t.
+// What f_i adds to Capacity: 8 % of the lightweight of a bulk carrier or a tanker, in 1/100 t. Rule 18 bounds it.
+fn allowance(kind: u64, lightweight: u64) -> u64
+    requires { ⌜ Listed kind × (lightweight ≤ 200000) ⌝ }
+    ensures { λ r. ⌜ (r ≡ allowance-of (kind-of kind) lightweight) × (r ≤ 1600000) ⌝ }
+{
+    if (kind == 1) | (kind == 3) {
+        8 * lightweight
+    } else {
+        0
+    }
+}
+
+// Capacity with f_i and f_m, of a record that rules 3 to 18 leave, in 10^-4 t.
 pub fn load(s: Ship) -> u64
     requires { ⌜ refusal-of s ≡ refusal.None ⌝ }
     ensures { λ r. ⌜ r ≡ load-of (figures s .ship) ⌝ }
 {
-    let deadweight = s.particulars.deadweight;
-    let capacity = ship::power::capacity_of(s.particulars.kind, deadweight);
-    capacity * ice_factor(s.particulars.ice)
+    let p = s.particulars;
+    let deadweight = p.deadweight;
+    let capacity = ship::power::capacity_of(p.kind, deadweight);
+    let laden = capacity + allowance(p.kind, p.build.lightweight);
+    laden * ice_factor(p.ice)
 }
