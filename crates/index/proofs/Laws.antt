@@ -100,7 +100,7 @@ module _ (top : Bool) {r : Figures Range} (a : Accepted-figures r) where
       let h : v .lo // 1000000 ≼ v .hi // 1000000 = consistent _ (speed-is .encloses .low) (speed-is .encloses .high) in
       omega (arith, h .cross)
 
-  moving : (s : Side) → Within 1000000 290000000 (at s v)
+  moving : (s : Side) → Within 1900000 230000000 (at s v)
   moving below = record { least = speed-is .slow; most = le-trans speed-order (speed-is .fast) }
   moving above = record { least = le-trans (speed-is .slow) speed-order; most = speed-is .fast }
 

@@ -25,10 +25,10 @@ module _ {c : ℕ} (w : Within (2 ^ 30) (331 * 2 ^ 30) c) where
   up-within = record { least = omega (arith, w .least, up .at-least); most = omega (arith, w .most, up .previous-below) }
 
 module _ {n load v c : ℕ} (z : Sized n load v c) where
-  pub work-low : 700000000000 ≤ load * v
+  pub work-low : 1330000000000 ≤ load * v
   work-low = mul-le-mul (z .loaded .least) (z .moving .least)
 
-  pub work-high : load * v ≤ 1827000000000000000
+  pub work-high : load * v ≤ 1449000000000000000
   work-high = mul-le-mul (z .loaded .most) (z .moving .most)
 
   pub work-some : 0 < load * v
@@ -60,9 +60,9 @@ module _ {n load v c : ℕ} (z : Sized n load v c) where
   -- Below 2^53.
   pub upper-small : index-up n load v c < 2 ^ 53
   upper-small =
-      let big : 700000000000 * 1000000 ≤ load * v * millionths-down c = mul-le-mul work-low (down-within (z .factored) .least) in
-      let x : n * 10 ^ 15 ≤ 8571428571429 * (load * v * millionths-down c) = le-trans (mul-le-mul-right (10 ^ 15) (z .emitted)) (le-trans (lit≤ tt) (mul-le-mul-left 8571428571429 big)) in
-      lt-of-le-of-lt (ceil-least upper-ceil 8571428571429 x) (lit< tt)
+      let big : 1330000000000 * 1000000 ≤ load * v * millionths-down c = mul-le-mul work-low (down-within (z .factored) .least) in
+      let x : n * 10 ^ 15 ≤ 4511278195489 * (load * v * millionths-down c) = le-trans (mul-le-mul-right (10 ^ 15) (z .emitted)) (le-trans (lit≤ tt) (mul-le-mul-left 4511278195489 big)) in
+      lt-of-le-of-lt (ceil-least upper-ceil 4511278195489 x) (lit< tt)
 
   -- Above 0, where something is emitted.
   pub upper-some : 0 < n → 0 < index-up n load v c
@@ -85,21 +85,21 @@ upper-order {load = load} {c = c} z z' h k =
 
 -- ── Nearness ────────────────────────────────────────────────────────────────────────────────
 
-last : (lo hi : ℕ) → hi * 1000000000000 ≤ lo * 1000008007474 + 2000008007474 → hi * 100000 ≤ lo * 100000 + hi + 200000
+last : (lo hi : ℕ) → hi * 1000000000000 ≤ lo * 1000006107466 + 2000006107466 → hi * 100000 ≤ lo * 100000 + hi + 200000
 last lo hi h = omega arith
 
 factor-near : {c c' : ℕ} → Within (2 ^ 30) (331 * 2 ^ 30) c → Within (2 ^ 30) (331 * 2 ^ 30) c' → Gap 7451 (c * 1000000) (c' * 1000000) → Gap 2007452 (millionths-down c) (millionths-up c')
 factor-near w w' near = gap-cut 2000001 (lit< tt) near (down w) (up w') (omega (arith, down-within w .least))
 
--- The emission, the speed and the factor are at most 2, 4 and 2.007452 millionths apart, together less than a hundred-thousandth.
+-- The emission, the speed and the factor are at most 2, 2.1 and 2.007452 millionths apart, together less than a hundred-thousandth.
 pub bounds-near : {n n' load v v' c c' : ℕ} → Sized n' load v c → Sized n load v' c' → n' * 1000000 ≤ n * 1000002
     → v' * 1000000 ≤ v * 1000000 + v' + 2000000 → c' * 2 ^ 27 ≤ c * (2 ^ 27 + 1)
     → index-up n' load v c * 100000 ≤ index-down n load v' c' * 100000 + index-up n' load v c + 200000
 bounds-near {n} {n'} {load} {v} {v'} {c} {c'} z z' nn vn cn =
     let emission : Gap 2000000 n n' = omega arith in
-    let speed : Gap 4000000 v v' = omega (arith, z .moving .least) in
+    let speed : Gap 2100000 v v' = omega (arith, z .moving .least) in
     let factor = factor-near (z .factored) (z' .factored) (omega arith) in
-    let all : Gap 8007474 (n * (v * millionths-down c)) (n' * (v' * millionths-up c')) = gap-product 13 (lit≤ tt) emission (gap-product 9 (lit≤ tt) speed factor) in
-    let ends : Gap 8007474 (n * 10 ^ 15 * (load * v * millionths-down c)) (n' * 10 ^ 15 * (load * v' * millionths-up c')) =
+    let all : Gap 6107466 (n * (v * millionths-down c)) (n' * (v' * millionths-up c')) = gap-product 9 (lit≤ tt) emission (gap-product 5 (lit≤ tt) speed factor) in
+    let ends : Gap 6107466 (n * 10 ^ 15 * (load * v * millionths-down c)) (n' * 10 ^ 15 * (load * v' * millionths-up c')) =
     record { gap = omega (arith, mul-le-mul-left (load * 10 ^ 15) (all .gap)) } in
     last _ _ (gap-rounded (down-some z) (up-some z') ends (lower-floor z') (upper-ceil z))

@@ -35,7 +35,7 @@ index-up n load v c = ceil-of (n * 10 ^ 15) (load * v * millionths-down c)
 pub record Sized (n load v c : ℕ) : Type 0 where
   pub emitted : n ≤ 6000000000000000
   pub loaded : Within 700000 6300000000 load
-  pub moving : Within 1000000 290000000 v
+  pub moving : Within 1900000 230000000 v
   pub factored : Within (2 ^ 30) (331 * 2 ^ 30) c
 
 -- ── Of one ship ─────────────────────────────────────────────────────────────────────────────

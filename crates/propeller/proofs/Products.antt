@@ -9,7 +9,7 @@ use Rattle.number.specs.Division.{Floor, Ceil}
 use Rattle.number.specs.Ratio.{Moderate, CubeRoot, cube-root-of}
 use Rattle.number.proofs.Divisions.{floor-is, ceil-is}
 use Rattle.number.proofs.Gaps.{Gap, gap-product, gap-rounded}
-use Rattle.number.proofs.Ratios.{cube-root-of-is, root-low, root-high, root-near, root-least, root-most, units-some, units-few}
+use Rattle.number.proofs.Ratios.{cube-root-of-is, root-low, root-high, root-near, units-some, units-few}
 use Rattle.power.specs.declared.Bounds.{Bounds}
 use Rattle.propeller.specs.declared.Split.{Split}
 use Rattle.propeller.specs.Propeller.{Parted, speed-from}
@@ -35,20 +35,11 @@ cubed t k r s n d pos h root =
     let up : t ^ 3 * s ^ 3 ≤ k ^ 3 * r ^ 3 = rw (← mul-pow t s 3, ← mul-pow k r 3) (pow-le-pow-left h 3) in
     le-of-mul-le-mul-right {k = s ^ 3} (omega (arith, mul-le-mul-right d up, mul-le-mul-left (k ^ 3) root)) (one-le-pow 3 s pos)
 
--- Where x / y is at most s / r, and that at most 2.
-twofold : (x y r s : ℕ) → 0 < r → x * r ≤ y * s → s ≤ r * 2 → x ≤ y * 2
-twofold x y r s pos h k = le-of-mul-le-mul-right {k = r} (omega (arith, mul-le-mul-left y k)) pos
-
 -- The two ends, in millionths of a knot, against base / over times the cube root of n / d.
 pub record Product (s : Split) (n d : ℕ) (r : Bounds) : Type 0 where
   pub below : (r .lo * 1000 * s .over .hi) ^ 3 * d ≤ (s .base .lo * 2 ^ 30) ^ 3 * n
   pub above : (s .base .hi * 2 ^ 30) ^ 3 * n ≤ (r .hi * 1000 * s .over .lo) ^ 3 * d
   pub near : r .hi * 1000000 ≤ r .lo * 1000000 + r .hi + 2000000
-  pub half : s .base .hi * 2 ^ 30 ≤ r .hi * 1000 * s .over .lo * 2
-  pub twice : n ≤ 8 * d → r .lo * 1000 * s .over .hi ≤ s .base .lo * 2 ^ 30 * 2
-
-some : {n d : ℕ} → Moderate n d → 0 < n
-some m = omega (arith, m .some, m .eighth)
 
 module _ {s : Split} {n d : ℕ} (p : Parted s) (m : Moderate n d) where
   root : CubeRoot n d (cube-root-of n d .scale) (cube-root-of n d .low) (cube-root-of n d .high)
@@ -88,8 +79,4 @@ module _ {s : Split} {n d : ℕ} (p : Parted s) (m : Moderate n d) where
             near =
                 ends-near (cube-root-of n d .scale * 1000) over-some over-some' (omega (arith, p .near)) (omega (arith, root-near (m .some) root .1, root-low (m .some) root))
                 (omega (arith, p .over-near)) f g;
-            half =
-                twofold (s .base .hi * 2 ^ 30) (hi * 1000 * s .over .lo) (cube-root-of n d .high) (cube-root-of n d .scale) r (omega (arith, g .at-least))
-                (root-least (m .some) root (some m) (m .eighth));
-            twice = λ k. twofold (lo * 1000 * s .over .hi) (s .base .lo * 2 ^ 30) (cube-root-of n d .scale) (cube-root-of n d .low) u (omega (arith, f .at-most)) (root-most (m .some) root k);
           }

@@ -36,5 +36,5 @@ speed-from s n d =
 pub record Speed (e : Formula) (r : Bounds) : Type 0 where
   pub encloses : Enclosed e (r .lo // 1000000) (r .hi // 1000000)
   pub near : r .hi * 1000000 ≤ r .lo * 1000000 + r .hi + 2000000
-  pub slow : 1000000 ≤ r .lo
-  pub fast : r .hi ≤ 290000000
+  pub slow : 1900000 ≤ r .lo
+  pub fast : r .hi ≤ 230000000

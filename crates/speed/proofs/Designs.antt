@@ -58,8 +58,8 @@ module _ (n : ℕ) (w : Within 90 100 n) where
       go : (y : Bounds) → Power 100 n 1 3 y → {lo hi : ℕ} → Floor 1073741824000000000 (y .hi) lo → Ceil 1073741824000000000 (y .lo) hi → KRoot n (pair lo hi)
       go y p {lo} {hi} f c =
           let pos : 0 < y .lo = omega (arith, p .low) in
-          let small : y .lo * 9 ≤ 10 * unit =
-          capped (y .lo) unit 100 n 1 3 10 9 10 9 (lit< tt) some (lit< tt) (lit< tt) (lit< tt) (omega (arith, w .least)) (lit≤ tt) (p .encloses-below) in
+          let small : y .lo * 24 ≤ 25 * unit =
+          capped (y .lo) unit 100 n 1 3 10 9 25 24 (lit< tt) some (lit< tt) (lit< tt) (lit< tt) (omega (arith, w .least)) (lit≤ tt) (p .encloses-below) in
           record {
             holds =
                 λ s. farther s unit _ _ 1000000000 n 100 1 3 (lit< tt) (some-at pos (p .order) (other s)) (elim s [ below ↦ f .at-most | above ↦ c .at-least ])
@@ -67,7 +67,7 @@ module _ (n : ℕ) (w : Within 90 100 n) where
             size =
                 record {
                   near = quotients 1073741824000000000 (y .lo) (y .hi) lo hi pos (p .near) (f .next-above) (c .previous-below);
-                  low = floor-greatest f 890000000 (omega (arith, p .near, small));
+                  low = floor-greatest f 950000000 (omega (arith, p .near, small));
                   order = le-of-mul-le-mul-right {k = y .lo} (omega (arith, f .at-most, c .at-least, mul-le-mul-left lo (p .order))) pos;
                   high = ceil-least c 1000000000 (omega (arith, p .low));
                 };
@@ -96,18 +96,18 @@ fives-raisable f h = record { some = f .b-low; from-one = h; moderate = omega (a
 pub turned : {a b : ℕ} → Fives a b → Fives b a
 turned f = omega (arith, f)
 
--- The power 2/9 of at most 5 is at most 2.
+-- The power 2/9 of at most 5 is at most 23/16.
 module _ {a b : ℕ} {x : Bounds} (f : Fives a b) (w : Power a b 2 9 x) where
-  pub two : x .lo ≤ 2 ^ 31
-  two = omega (arith, capped (x .lo) unit a b 2 9 5 1 2 1 (lit< tt) (f .b-low) (lit< tt) (lit< tt) (lit< tt) (omega (arith, f .near .first)) (lit≤ tt) (w .encloses-below))
+  pub power-most : x .lo ≤ 23 * 2 ^ 26
+  power-most = omega (arith, capped (x .lo) unit a b 2 9 5 1 23 16 (lit< tt) (f .b-low) (lit< tt) (lit< tt) (lit< tt) (omega (arith, f .near .first)) (lit≤ tt) (w .encloses-below))
 
-  pub two' : x .hi ≤ 2 ^ 31 + 16
-  two' = omega (arith, two, w .near)
+  pub power-most' : x .hi ≤ 23 * 2 ^ 26 + 12
+  power-most' = omega (arith, power-most, w .near)
 
 pub up-fits : {g : Bounds} {a b : ℕ} → Factor g → Fives a b → b ≤ a → (g .lo * power-of a b 2 9 .lo ≤ 2 ^ 61) × (g .hi * power-of a b 2 9 .hi ≤ 2 ^ 61)
 up-fits c f h =
     let p = power-law (fives-raisable f h) in
-    (le-trans (mul-le-mul (le-trans (c .order) (c .high)) (two f p)) (lit≤ tt), le-trans (mul-le-mul (c .high) (two' f p)) (lit≤ tt))
+    (le-trans (mul-le-mul (le-trans (c .order) (c .high)) (power-most f p)) (lit≤ tt), le-trans (mul-le-mul (c .high) (power-most' f p)) (lit≤ tt))
 
 -- v f / 100 rounded down and up, where f' is at most 2.5 hundred-millionths above f.
 pub record Based (p : Bounds) : Type 0 where
@@ -115,17 +115,17 @@ pub record Based (p : Bounds) : Type 0 where
   pub order : p .lo ≤ p .hi
   pub high : p .hi ≤ 2 ^ 38
   pub near : p .hi * 100000000 ≤ p .lo * 100000003
-  pub fast : 4450000000 ≤ p .hi
-  pub slow : p .lo ≤ 120000000000
+  pub fast : 4750000000 ≤ p .hi
+  pub slow : p .lo ≤ 86250000000
 
 pub record Close (f : Bounds) : Type 0 where
-  pub low : 890000000 ≤ f .lo
+  pub low : 950000000 ≤ f .lo
   pub order : f .lo ≤ f .hi
-  pub high : f .lo ≤ 2000000000
-  pub high' : f .hi ≤ 2000000100
+  pub high : f .lo ≤ 1437500000
+  pub high' : f .hi ≤ 1437500100
   pub near : Gap 25000 (f .lo) (f .hi)
 
-hundredths : {x x' : ℕ} {p : Bounds} → 445000000000 ≤ x → x ≤ x' → x ≤ 12000000000000 → x' ≤ 12000000600000 → Gap 25000 x x' → Floor x 100 (p .lo) → Ceil x' 100 (p .hi) → Based p
+hundredths : {x x' : ℕ} {p : Bounds} → 475000000000 ≤ x → x ≤ x' → x ≤ 8625000000000 → x' ≤ 8625000600000 → Gap 25000 x x' → Floor x 100 (p .lo) → Ceil x' 100 (p .hi) → Based p
 hundredths low order high high' near fl ce = omega arith
 
 pub based : {v : ℕ} {f p : Bounds} → Within 500 6000 v → Close f → Floor (v * f .lo) 100 (p .lo) → Ceil (v * f .hi) 100 (p .hi) → Based p
@@ -138,13 +138,13 @@ factor-close c = omega (arith, c)
 
 pub times-close : {g x f : Bounds} {a b : ℕ} → Factor g → Fives a b → Power a b 2 9 x → Floor (g .lo * x .lo) (2 ^ 30) (f .lo) → Ceil (g .hi * x .hi) (2 ^ 30) (f .hi) → Close f
 times-close {g} {x} {f} c near p fl ce =
-    let low : 890000000 ≤ f .lo = floor-greatest fl 890000000 (mul-le-mul (c .low) (p .low)) in
+    let low : 950000000 ≤ f .lo = floor-greatest fl 950000000 (mul-le-mul (c .low) (p .low)) in
     let gap : Gap 17152 (g .lo * x .lo) (g .hi * x .hi) = gap-product {j = 9700} {k = 7451} 1 (lit≤ tt) (omega (arith, c .near, c .low)) (omega (arith, p .near)) in
     record {
       low = low;
       order = omega (arith, mul-le-mul (c .order) (p .order), fl .at-most, ce .at-least);
-      high = omega (arith, mul-le-mul (le-trans (c .order) (c .high)) (two near p), fl .at-most);
-      high' = ceil-least ce 2000000100 (le-trans (mul-le-mul (c .high) (two' near p)) (lit≤ tt));
+      high = omega (arith, mul-le-mul (le-trans (c .order) (c .high)) (power-most near p), fl .at-most);
+      high' = ceil-least ce 1437500100 (le-trans (mul-le-mul (c .high) (power-most' near p)) (lit≤ tt));
       near = gap-cut 7848 (lit< tt) gap fl ce (omega arith);
     }
 
@@ -152,13 +152,13 @@ times-close {g} {x} {f} c near p fl ce =
 pub record DesignParts (v : ℕ) (g : Bounds) (a b : ℕ) (p : Split) : Type 0 where
   pub holds : (s : Side) → BoundsPower s (at s (p .base) * 100 * 2 ^ 30) (v * at s g * at (other s) (p .over)) a b 2 9
   pub parted : Parted p
-  pub fast : 4450000000 ≤ p .base .hi
-  pub slow : p .base .lo ≤ 120000000000
-  pub thin : p .over .lo ≤ 2 ^ 31
+  pub fast : 4750000000 ≤ p .base .hi
+  pub slow : p .base .lo ≤ 86250000000
+  pub thin : p .over .lo ≤ 23 * 2 ^ 26
 
 module _ {v : ℕ} {g : Bounds} {a b : ℕ} (w : Within 500 6000 v) (c : Factor g) (f : Fives a b) where
   -- v times h over o, where h over o is g times a bound t / u of the power.
-  designed : {h o : Bounds} (t u : Side → ℕ) → Close h → 2 ^ 30 ≤ o .lo → o .lo ≤ o .hi → o .hi ≤ 2 ^ 51 → o .hi * 2 ^ 27 ≤ o .lo * (2 ^ 27 + 1) → o .lo ≤ 2 ^ 31
+  designed : {h o : Bounds} (t u : Side → ℕ) → Close h → 2 ^ 30 ≤ o .lo → o .lo ≤ o .hi → o .hi ≤ 2 ^ 51 → o .hi * 2 ^ 27 ≤ o .lo * (2 ^ 27 + 1) → o .lo ≤ 23 * 2 ^ 26
       → ((s : Side) → 0 < u s) → ((s : Side) → Upto s (at s h * 2 ^ 30 * u s) (t s * at s g * at (other s) o)) → ((s : Side) → BoundsPower s (t s) (u s) a b 2 9)
       → DesignParts v g a b (record { base = times-of v h; over = o })
   designed {h} {o} t u close low order high near thin some part bound = go (floor-is _ 100 (lit< tt)) (ceil-is _ 100 (lit< tt))
@@ -198,7 +198,7 @@ module _ {v : ℕ} {g : Bounds} {a b : ℕ} (w : Within 500 6000 v) (c : Factor 
   down-parts h =
       let x = power-of b a 2 9 in
       let p = power-law (fives-raisable (turned f) h) in
-      designed (λ s. unit) (λ s. at (other s) x) (factor-close c) (p .low) (p .order) (p .high) (p .near) (two (turned f) p)
+      designed (λ s. unit) (λ s. at (other s) x) (factor-close c) (p .low) (p .order) (p .high) (p .near) (power-most (turned f) p)
       (λ s. some-at (omega (arith, p .low)) (p .order) (other s)) (λ s. elim s [ below ↦ omega arith | above ↦ omega arith ]) (inverse-at (f .b-low) (f .a-low) (lit< tt) p)
 
   pub parts : DesignParts v g a b (parts-of v g a b)

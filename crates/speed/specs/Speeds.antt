@@ -30,7 +30,7 @@ k-root-of n = let y = power-of 100 n 1 3 in pair (1073741824000000000 / y .hi) (
 -- Two close ends of a factor just below 1, in 10^-9.
 pub record Factor (g : Bounds) : Type 0 where
   pub near : g .hi * 2 ^ 27 ≤ (g .lo + 2) * (2 ^ 27 + 1)
-  pub low : 890000000 ≤ g .lo
+  pub low : 950000000 ≤ g .lo
   pub order : g .lo ≤ g .hi
   pub high : g .hi ≤ 1000000000
 

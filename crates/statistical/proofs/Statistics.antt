@@ -45,21 +45,21 @@ pub record Averaged (kind : Kind) (dwt : Deadweight) (v : Bounds) : Type 0 where
 
 module _ (kind : Kind) (dwt : Deadweight) (w : Within 100 600000 (dwt .tonnes)) where
   pub average-raisable : Raisable (sized 80000 kind dwt) 1 (row kind .C) 100000
-  average-raisable = size-raisable 80000 (row kind .C) 100000 kind dwt (lit≤ tt) w (omega (arith, row-fits kind .2 .c-high)) (lit< tt)
+  average-raisable = size-raisable 80000 (row kind .C) 100000 kind dwt (lit≤ tt) w (omega (arith, row-fits kind .1 .c-high)) (lit< tt)
 
   law : Power (sized 80000 kind dwt) 1 (row kind .C) 100000 (power-of (sized 80000 kind dwt) 1 (row kind .C) 100000)
   law = power-law average-raisable
 
-  below-most : power-of (sized 80000 kind dwt) 1 (row kind .C) 100000 .lo ≤ unit * row-fits kind .1
+  below-most : power-of (sized 80000 kind dwt) 1 (row kind .C) 100000 .lo ≤ unit * row-fits kind .0 .m
   below-most =
       let z = sized-within 80000 kind dwt (lit≤ tt) w in
-      let fit = row-fits kind .2 in
-      capped-root _ (sized 80000 kind dwt) (row kind .C) 100000 (row-fits kind .0) (row-fits kind .1) 600000 (omega (arith, z .least)) (z .most) (lit< tt)
+      let fit = row-fits kind .1 in
+      capped-root _ (sized 80000 kind dwt) (row kind .C) 100000 (row-fits kind .0 .j) (row-fits kind .0 .m) 600000 (omega (arith, z .least)) (z .most) (lit< tt)
       (fit .j-low) (fit .c-root) (fit .top) (law .encloses-below)
 
   -- A x^C in 10^-5 of a unit.
   pub low-fits : row kind .A * power-of (sized 80000 kind dwt) 1 (row kind .C) 100000 .lo ≤ unit * 901000
-  low-fits = omega (arith, mul-le-mul-left (row kind .A) below-most, row-fits kind .2 .fast)
+  low-fits = omega (arith, mul-le-mul-left (row kind .A) below-most, row-fits kind .1 .fast)
 
   pub high-fits : row kind .A * power-of (sized 80000 kind dwt) 1 (row kind .C) 100000 .hi ≤ unit * 901001
   high-fits = omega (arith, low-fits, mul-le-mul-left (row kind .A) (law .near))
@@ -74,8 +74,8 @@ module _ (kind : Kind) (dwt : Deadweight) (w : Within 100 600000 (dwt .tonnes)) 
           let t = row kind .A * 3125 in
           let n = mul-le-mul-left t (p .near) in
           let o = mul-le-mul-left t (p .order) in
-          let l = mul-le-mul (row-fits kind .2 .a-low) (p .low) in
-          let pos : 0 < row kind .A * 100000 = omega (arith, row-fits kind .2 .a-low) in
+          let l = mul-le-mul (row-fits kind .1 .a-low) (p .low) in
+          let pos : 0 < row kind .A * 100000 = omega (arith, row-fits kind .1 .a-low) in
           record {
             holds = λ s. farther s (at s x) unit _ _ _ _ _ _ pos (lit< tt) (elim s [ below ↦ omega arith | above ↦ omega arith ]) (power-at p s);
             near = omega arith;
@@ -91,7 +91,7 @@ module _ (kind : Kind) (dwt : Deadweight) (w : Within 100 600000 (dwt .tonnes)) 
     where
       same : (v : ℕ) → v // 1000000000 ≈ row kind .A // 10000 · v // (row kind .A * 100000)
       same v =
-          let pos : 0 < row kind .A * 100000 = omega (arith, row-fits kind .2 .a-low) in
+          let pos : 0 < row kind .A * 100000 = omega (arith, row-fits kind .1 .a-low) in
           record { cross = rw (suc-pred-eq-of-pos pos) (omega arith) }
 
 -- ── The margin ──────────────────────────────────────────────────────────────────────────────
@@ -178,7 +178,7 @@ split-parted {v = v} a o =
 
 module _ (kind : Kind) (dwt : Deadweight) (P : ℕ) (w : Within 100 600000 (dwt .tonnes)) (strong : Within 7500 36000000 P) where
   pub over-raisable : Raisable (sized 95000 kind dwt) 1 (row kind .F) 300000
-  over-raisable = size-raisable 95000 (row kind .F) 300000 kind dwt (lit≤ tt) w (omega (arith, row-fits kind .2 .f-high)) (lit< tt)
+  over-raisable = size-raisable 95000 (row kind .F) 300000 kind dwt (lit≤ tt) w (omega (arith, row-fits kind .1 .f-high)) (lit< tt)
 
   over : Power (sized 95000 kind dwt) 1 (row kind .F) 300000 (power-of (sized 95000 kind dwt) 1 (row kind .F) 300000)
   over = power-law over-raisable
@@ -187,7 +187,7 @@ module _ (kind : Kind) (dwt : Deadweight) (P : ℕ) (w : Within 100 600000 (dwt 
   statistical-parted = split-parted (averaged kind dwt w) over
 
   pub statistical-moderate : Moderate (P * 400) (3 * row kind .D)
-  statistical-moderate = omega (arith, row-fits kind .2 .d-low, row-fits kind .2 .d-high, strong)
+  statistical-moderate = omega (arith, row-fits kind .1 .d-low, row-fits kind .1 .d-high, strong)
 
   module _ (v o r : Bounds) (a : Averaged kind dwt v) (law : Power (sized 95000 kind dwt) 1 (row kind .F) 300000 o) (x : Product (based v o) (P * 400) (3 * row kind .D) r) where
     margin-side : (s : Side) → bounds s (less-margin (V-avg kind dwt)) (at s (based v o .base) // 1000000000)
@@ -205,26 +205,27 @@ module _ (kind : Kind) (dwt : Deadweight) (P : ℕ) (w : Within 100 600000 (dwt 
     unfolding V-ref
     speed-side s =
         shape ((at s r * 1000) // at s (based v o .base)) (margin-side s) (mcr-bounds kind dwt (other s) (at (other s) o) (power-at law (other s)))
-        (mul-pos (lit< tt) (mul-pos (row-fits kind .2 .d-low) (one-le-pow 3 (at (other s) o) (over-some (other s)))))
+        (mul-pos (lit< tt) (mul-pos (row-fits kind .1 .d-low) (one-le-pow 3 (at (other s) o) (over-some (other s)))))
         (root-side s (at s r) (at (other s) o) (at s (based v o .base)) (row kind .D) P (base-some s) (cubes x s))
         (lies-≈ s (out (at s r) (at s (based v o .base)) (base-some s)))
 
     statistical-is : Speed (V-ref statistical kind dwt (lit (P // 100))) r
     statistical-is =
-        let fit = row-fits kind .2 in
+        let fit = row-fits kind .1 in
         let cuts = two-cuts kind dwt w in
         let size : 100 ≤ sized 95000 kind dwt = sized-within 95000 kind dwt (lit≤ tt) w .least in
         let k : 0 < row kind .A * 100000 = omega (arith, fit .a-low) in
-        let wide : o .lo * (row kind .A * 100000) ≤ unit * v .hi * 10 =
-        spread (o .lo) unit (sized 95000 kind dwt) (row kind .F) (v .hi) (row kind .A * 100000) (sized 80000 kind dwt) (row kind .C) 100000 50000 (cuts .factor) 10 (lit< tt) k (lit< tt)
-        (le-trans (lit≤ tt) size) (cuts .some) (cuts .wide) (cuts .small) (fit .spread) (omega (arith, fit .c-high)) refl (power-at law below) (a .holds above) in
+        let n = row-fits kind .0 in
+        let wide : o .lo * (row kind .A * 100000) ≤ unit * v .hi * n .c =
+        spread (o .lo) unit (sized 95000 kind dwt) (row kind .F) (v .hi) (row kind .A * 100000) (sized 80000 kind dwt) (row kind .C) 100000 600000 (n .a) (n .b) (n .c) (lit< tt) k (lit< tt)
+        (le-trans (lit≤ tt) size) (fit .b-some) (cuts .most) (cuts .near) (fit .cut) (fit .spread) (fit .grown) (power-at law below) (a .holds above) in
         let far : v .lo * unit * 3 ≤ row kind .A * 100000 * o .hi * 2 =
         apart (o .hi) unit (sized 95000 kind dwt) (row kind .F) (v .lo) (row kind .A * 100000) (sized 80000 kind dwt) (row kind .C) 100000 30000 (lit< tt) k (lit< tt)
         size (cuts .order) (fit .apart) refl (power-at law above) (a .holds below) in
-        let slow : 1050000 ≤ r .hi =
-        slowest (r .hi) (o .lo) (row kind .A) (row kind .D) unit (v .hi) (less-margin-of (v .hi) + 1) P (over-some below) (fit .d-low) (strong .least)
+        let slow : 1910000 ≤ r .hi =
+        slowest (r .hi) (o .lo) (row kind .A) (row kind .D) unit (v .hi) (less-margin-of (v .hi) + 1) P (n .c) (over-some below) (fit .d-low) (fit .c-some) (strong .least)
         wide (kept (v .hi) .first) (fit .strong) (x .above) in
-        let fast : r .lo ≤ 280000000 =
+        let fast : r .lo ≤ 220000000 =
         fastest (r .lo) (o .hi) (row kind .A) (row kind .D) unit (v .lo) (less-margin-of (v .lo)) P (over-some above) (fit .d-low) (strong .most) far (kept (v .lo) .less) (fit .weak) (x .below) in
         let near = x .near in
         record { encloses = record { low = speed-side below; high = speed-side above }; near = near; slow = omega arith; fast = omega arith }

@@ -25,7 +25,7 @@ fits c =
     let kind = kind-of (s .args .kind) in
     let dwt = deadweight-of (s .args .deadweight) in
     rw (c .power .ensures, c .before .size .ensures, row .row-of .ensures .c-is, row .row-of .ensures .a-is)
-    (row-fits kind .2 .a-high, omega (arith, low-fits kind dwt (s .pre .1)), omega (arith, high-fits kind dwt (s .pre .1)))
+    (row-fits kind .1 .a-high, omega (arith, low-fits kind dwt (s .pre .1)), omega (arith, high-fits kind dwt (s .pre .1)))
 
 returns : tie.Need-returns
 unfolding average-of

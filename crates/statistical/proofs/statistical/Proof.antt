@@ -46,7 +46,7 @@ power-requires c κs =
 mul-speed-from-2 : tie.Need-mul-speed-from-2
 mul-speed-from-2 c =
     let row = c .before .before .before .before .before .before in
-    let h : row .row-of .result .d ≤ 2627693 = rw (row .row-of .ensures .d-is) (row-fits (kind-of (row .before .args .kind)) .2 .d-high) in
+    let h : row .row-of .result .d ≤ 2627693 = rw (row .row-of .ensures .d-is) (row-fits (kind-of (row .before .args .kind)) .1 .d-high) in
     omega arith
 
 speed-from-requires : tie.Need-speed-from-requires
