@@ -1,4 +1,4 @@
--- The laws of f_c by name: what its users may know of it.
+-- The laws of f_c and f_l by name: what their users may know of them.
 -- Assumes nothing.
 use Prim.Native.Nat.{ℕ, _*_, _^_, _≤_, _<_}
 use mathlib.Core.Path.{_≡_, refl, ap}
@@ -8,30 +8,31 @@ use native.Mathlib.Omega.{arith}
 use lib.ListN.{length}
 use borrow.Author.Tests.{ltb-true, ltb-false}
 use lib.Dec.{ltb, lit≤, lit<}
-use Rattle.formula.specs.Formula.{_//_, _·_, Side, other, Formula, lit, _⊘_, _↑_, bounds, by-lit, by-quotient}
-use Rattle.exact.specs.Ship.{Deadweight, GrossTonnage, Kind, bulk, gas, tanker, container, refrigerated, combination, vehicle, Particulars, Figures}
+use Rattle.formula.specs.Formula.{_//_, _·_, Side, other, Formula, lit, _⊗_, _⊘_, _↑_, bounds, by-lit, by-quotient}
+use Rattle.exact.specs.Ship.{Deadweight, GrossTonnage, Kind, bulk, gas, tanker, container, refrigerated, combination, vehicle, general, Particulars, Figures}
 use Rattle.formula.specs.Words.{whole, percent, if}
-use Rattle.exact.specs.Index.{light-cargo, light-vehicles, f-c}
+use Rattle.exact.specs.Index.{light-cargo, light-vehicles, f-c, f-l}
 use Rattle.exact.specs.Ranges.{Range}
 use Rattle.formula.proofs.Fractions.{_≈_, lies-refl, lies-≈}
-use Rattle.formula.proofs.Formulas.{enclosed-≈, enclosed-lit}
+use Rattle.formula.proofs.Formulas.{enclosed-≈, enclosed-wider, enclosed-lit, enclosed-product}
 use Rattle.formula.proofs.Powers.{inverse}
 use Rattle.exact.proofs.Rules.{light-cargo-none, light-cargo-some, light-vehicles-none, light-vehicles-some}
 use Rattle.ship.specs.Figures.{kinds, kind-of}
-use Rattle.ship.specs.Accepted.{Within, Accepted-figures}
+use Rattle.ship.specs.Accepted.{Within, Each, Geared, Accepted-figures}
 use Rattle.ship.proofs.Numbered.{by-number}
 use Rattle.power.specs.declared.Bounds.{Bounds}
 use Rattle.power.specs.Power.{Raisable, power-of}
-use Rattle.factor.specs.Factor.{one, cargo-factor, vehicles-factor, factor-by, Factored}
+use Rattle.factor.specs.Factor.{one, cargo-factor, vehicles-factor, cranes-factor, factor-by, Factored}
 use Rattle.factor.proofs.Inverses.{turned, above-one}
+use Rattle.factor.proofs.Lifting.{cranes-factored}
 
--- What a pair is to its formula: it encloses it, and is exactly 1 where the rule says 1, and nowhere else.
-pub record Follows (e : Formula) (r : Bounds) : Type 0 where
-  pub factored : Factored e r
-  pub one-where : e ≡ whole 1 → r ≡ one
-  pub only-where : r ≡ one → e ≡ whole 1
+-- What f_c's pair is to its formula: it encloses it, and is exactly 1 where the rule says 1, and nowhere else.
+record Light (e : Formula) (r : Bounds) : Type 0 where
+  factored : Factored e r
+  one-where : e ≡ whole 1 → r ≡ one
+  only-where : r ≡ one → e ≡ whole 1
 
-exactly : Follows (whole 1) one
+exactly : Light (whole 1) one
 exactly =
     record {
       factored = record { encloses = enclosed-≈ (enclosed-lit (1 // 1)) (omega arith); near = lit≤ tt; low = lit≤ tt; order = lit≤ tt; high = lit≤ tt };
@@ -41,7 +42,7 @@ exactly =
 
 -- A quotient is no literal, and the power of more than 1 isn't 1.
 power-follows : {T : Formula} {a b p q : ℕ} → Raisable a b p q → 0 < p → b < a → Factored (whole 1 ⊘ T ↑ (p // q)) (power-of a b p q)
-    → Follows (whole 1 ⊘ T ↑ (p // q)) (power-of a b p q)
+    → Light (whole 1 ⊘ T ↑ (p // q)) (power-of a b p q)
 power-follows given some more w =
     record {
       factored = w;
@@ -65,10 +66,10 @@ module _ {F T : Formula} (n limit a b p q m c : ℕ) (some : 1 ≤ b) (small : a
         fine = exponent .2;
       }
 
-  limited : Follows F (if (ltb n limit) (power-of a b p q) one)
+  limited : Light F (if (ltb n limit) (power-of a b p q) one)
   limited = go (ltb n limit) refl
     where
-      go : (t : Bool) → ltb n limit ≡ t → Follows F (if t (power-of a b p q) one)
+      go : (t : Bool) → ltb n limit ≡ t → Light F (if t (power-of a b p q) one)
       go true e =
           let h = ltb-true n limit e in
           let more = light h in
@@ -86,7 +87,7 @@ module _ (dwt : Deadweight) (cargo : ℕ) (d : Within 100 600000 (dwt .tonnes)) 
       let same : inverse (cargo // dwt .tonnes) p ≈ dwt .tonnes // cargo = record { cross = rw (suc-pred-eq-of-pos n, suc-pred-eq-of-pos p) } in
       by-lit (lies-≈ s same)
 
-  cargo-follows : Follows (light-cargo dwt cargo) (cargo-factor dwt cargo)
+  cargo-follows : Light (light-cargo dwt cargo) (cargo-factor dwt cargo)
   unfolding cargo-factor
   cargo-follows =
       let p : 0 < cargo = omega (arith, v .least) in
@@ -106,7 +107,7 @@ module _ (dwt : Deadweight) (gross : GrossTonnage) (d : Within 100 600000 (dwt .
       let same : inverse ((35 * gross .gt) // (100 * dwt .tonnes)) p · 35 // 100 ≈ dwt .tonnes // gross .gt = record { cross = rw (suc-pred-eq-of-pos n, suc-pred-eq-of-pos m) (omega arith) } in
       by-quotient (by-lit (lies-refl s _)) (by-lit (lies-refl (other s) (35 // 100))) (lit< tt) (lies-≈ s same)
 
-  vehicles-follows : Follows (light-vehicles dwt gross) (vehicles-factor dwt gross)
+  vehicles-follows : Light (light-vehicles dwt gross) (vehicles-factor dwt gross)
   unfolding vehicles-factor
   vehicles-follows =
       let p : 0 < gross .gt = omega (arith, g .least) in
@@ -118,19 +119,63 @@ module _ (dwt : Deadweight) (gross : GrossTonnage) (d : Within 100 600000 (dwt .
 
 -- ── Every type ──────────────────────────────────────────────────────────────────────────────
 
-by-kind : (k : Kind) (s : Particulars) → Within 100 600000 (s .deadweight .tonnes) → (k ≡ vehicle → Within 100 400000 (s .gross .gt)) → (k ≡ bulk → Within 100 1000000 (s .cargo))
-    → Follows (f-c k s) (factor-by k s)
-unfolding f-c factor-by
-by-kind bulk s d g v = cargo-follows (s .deadweight) (s .cargo) d (v refl)
-by-kind vehicle s d g v = vehicles-follows (s .deadweight) (s .gross) d (g refl)
-by-kind gas s d g v = exactly
-by-kind tanker s d g v = exactly
-by-kind container s d g v = exactly
-by-kind refrigerated s d g v = exactly
-by-kind combination s d g v = exactly
+-- What the pair is to f_c times f_l: it encloses it, and of types 1 to 7 is exactly 1 where the rule says that f_c is 1, and nowhere else.
+pub record Follows (k : Kind) (s : Particulars) (r : Bounds) : Type 0 where
+  pub factored : Factored (f-c k s ⊗ f-l k s) r
+  pub one-where : (k ≡ general → ⊥) → f-c k s ≡ whole 1 → r ≡ one
+  pub only-where : (k ≡ general → ⊥) → r ≡ one → f-c k s ≡ whole 1
 
-pub factor-law : {f : Figures Range} → Accepted-figures f → Follows (f-c (f .ship .kind) (f .ship)) (factor-by (f .ship .kind) (f .ship))
-factor-law {f} a = by-kind (f .ship .kind) (f .ship) (a .deadweight) (a .gross) (a .cargo)
+-- A factor of 1 behind or in front changes no bound.
+module _ {e : Formula} {r : Bounds} (h : Factored e r) where
+  behind : Factored (e ⊗ whole 1) r
+  behind =
+      record {
+        encloses = enclosed-wider (enclosed-product (h .encloses) (enclosed-lit (1 // 1))) (omega arith) (omega arith);
+        near = h .near;
+        low = h .low;
+        order = h .order;
+        high = h .high;
+      }
+
+  in-front : Factored (whole 1 ⊗ e) r
+  in-front =
+      record {
+        encloses = enclosed-wider (enclosed-product (enclosed-lit (1 // 1)) (h .encloses)) (omega arith) (omega arith);
+        near = h .near;
+        low = h .low;
+        order = h .order;
+        high = h .high;
+      }
+
+by-f-c : {k : Kind} {s : Particulars} {r : Bounds} → Light (f-c k s) r → f-l k s ≡ whole 1 → Follows k s r
+by-f-c h e = record { factored = rw e (behind (h .factored)); one-where = λ o. h .one-where; only-where = λ o. h .only-where }
+
+-- What rules 6, 7, 8 and 18 leave.
+record Fitted (k : Kind) (s : Particulars) : Type 0 where
+  deadweight : Within 100 600000 (s .deadweight .tonnes)
+  gross : k ≡ vehicle → Within 100 400000 (s .gross .gt)
+  cargo : k ≡ bulk → Within 100 1000000 (s .cargo)
+  cranes : Each Geared (s .cranes)
+  few : length (s .cranes) ≤ 8
+
+by-kind : (k : Kind) (s : Particulars) → Fitted k s → Follows k s (factor-by k s)
+unfolding f-c f-l factor-by
+by-kind bulk s a = by-f-c (cargo-follows (s .deadweight) (s .cargo) (a .deadweight) (a .cargo refl)) refl
+by-kind vehicle s a = by-f-c (vehicles-follows (s .deadweight) (s .gross) (a .deadweight) (a .gross refl)) refl
+by-kind gas s a = by-f-c exactly refl
+by-kind tanker s a = by-f-c exactly refl
+by-kind container s a = by-f-c exactly refl
+by-kind refrigerated s a = by-f-c exactly refl
+by-kind combination s a = by-f-c exactly refl
+by-kind general s a =
+    record {
+      factored = in-front (cranes-factored (s .deadweight) (s .cranes) (a .deadweight) (a .cranes) (a .few));
+      one-where = λ o. absurd (o refl);
+      only-where = λ o. absurd (o refl);
+    }
+
+pub factor-law : {f : Figures Range} → Accepted-figures f → Follows (f .ship .kind) (f .ship) (factor-by (f .ship .kind) (f .ship))
+factor-law {f} a = by-kind (f .ship .kind) (f .ship) (record { deadweight = a .deadweight; gross = a .gross; cargo = a .cargo; cranes = a .cranes; few = a .few })
 
 -- ── Types by number ─────────────────────────────────────────────────────────────────────────
 
@@ -143,13 +188,19 @@ module _ (s : Particulars) (k : ℕ) where
   unfolding factor-by
   of-vehicle e = rw e
 
+  pub of-general : k ≡ 8 → cranes-factor (s .deadweight) (s .cranes) ≡ factor-by (kind-of k) s
+  unfolding factor-by
+  of-general e = rw e
+
   pub of-others : Within 2 6 k → one ≡ factor-by (kind-of k) s
   unfolding factor-by
   of-others w =
       by-number
       (λ k. Within 2 6 k → one ≡ factor-by (kind-of k) s)
-      (length kinds)
-      (((((((tt, λ h. absurd (omega (arith, h .least))), λ h. refl), λ h. refl), λ h. refl), λ h. refl), λ h. refl), λ h. absurd (omega (arith, h .most)))
+      (length kinds) (
+        (((((((tt, λ h. absurd (omega (arith, h .least))), λ h. refl), λ h. refl), λ h. refl), λ h. refl), λ h. refl), λ h. absurd (omega (arith, h .most))),
+        λ h. absurd (omega (arith, h .most)),
+      )
       k
       (omega arith)
       w

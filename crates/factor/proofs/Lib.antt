@@ -1,2 +1,3 @@
 pub mod Inverses
+pub mod Lifting
 pub mod Laws

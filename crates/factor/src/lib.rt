@@ -1,14 +1,18 @@
-// f_c, the capacity factor of light cargoes, enclosed between two whole numbers of units of 2^-30.
+// f_c, the capacity factor of light cargoes, and f_l, that of cranes, enclosed between two whole numbers of units of 2^-30.
 use power::Bounds;
+use ship::Crane;
 use ship::Deadweight;
 use ship::GrossTonnage;
 use ship::Ship;
 ghost use mathlib.Core.Path.{_≡_};
-ghost use Rattle.ship.specs.Figures.{deadweight-of, figures};
-ghost use Rattle.ship.specs.Accepted.{Within};
+ghost use Prim.Native.Nat.{ℕ, _≤_, _<_};
+ghost use lib.ListN.{getD};
+ghost use Rattle.ship.specs.Record.{no-crane};
+ghost use Rattle.ship.specs.Figures.{deadweight-of, crane-of, cranes-of, figures};
+ghost use Rattle.ship.specs.Accepted.{Within, Geared};
 ghost use Rattle.ship.specs.Rules.{refusal-of};
 ghost use Rattle.ship.specs.declared.Refusal.the-variants as refusal;
-ghost use Rattle.factor.specs.Factor.{one, cargo-factor, vehicles-factor, factor-by};
+ghost use Rattle.factor.specs.Factor.{one, cargo-factor, vehicles-factor, lifted-of, cranes-factor, factor-by};
 
 fn exactly_one() -> Bounds
     ensures { λ r. ⌜ r ≡ one ⌝ }
@@ -46,7 +50,36 @@ fn light_vehicles(deadweight: Deadweight, gross: GrossTonnage) -> Bounds
     }
 }
 
-// f_c of a record that rules 4 to 16 leave.
+// What the cranes that are used count for, in 10^-6 t. Rule 18 bounds them.
+fn lifted(used: u64, gear: [Crane; 8]) -> u64
+    requires { ⌜ (used ≤ 8) × ((i : ℕ) → i < used → Geared (crane-of (getD gear i no-crane))) ⌝ }
+    ensures { λ r. ⌜ (r ≡ lifted-of (cranes-of used gear)) × (r ≤ 415456880000) ⌝ }
+{
+    let n = used as usize;
+    let mut sum: u64 = 0;
+    let mut i: usize = 0;
+    while i < n {
+        let c = gear[i];
+        sum += 519 * (c.swl * c.reach) + 32110000;
+        i += 1;
+    }
+    sum
+}
+
+// A general cargo ship's f_l: Capacity and what her cranes count for, over Capacity.
+fn cranes(deadweight: Deadweight, used: u64, gear: [Crane; 8]) -> Bounds
+    requires { ⌜ Within 100 600000 (deadweight .tonnes) × (used ≤ 8) × ((i : ℕ) → i < used → Geared (crane-of (getD gear i no-crane))) ⌝ }
+    ensures { λ r. ⌜ r ≡ cranes-factor (deadweight-of deadweight) (cranes-of used gear) ⌝ }
+{
+    let d = deadweight.tonnes * 1000000;
+    let n = d + lifted(used, gear);
+    Bounds {
+        lo: number::division::floor_scaled(n, d, 32768, 2),
+        hi: number::division::ceil_scaled(n, d, 32768, 2),
+    }
+}
+
+// f_c times f_l of a record that rules 3 to 18 leave.
 pub fn factor(s: Ship) -> Bounds
     requires { ⌜ refusal-of s ≡ refusal.None ⌝ }
     ensures { λ r. ⌜ r ≡ factor-by (figures s .ship .kind) (figures s .ship) ⌝ }
@@ -55,10 +88,12 @@ pub fn factor(s: Ship) -> Bounds
     let kind = p.kind;
     let deadweight = p.deadweight;
     let gross = p.gross;
+    let gear = p.build.gear;
     match kind {
         1 => light_cargo(deadweight, p.cargo),
         2..=6 => exactly_one(),
         7 => light_vehicles(deadweight, gross),
+        8 => cranes(deadweight, p.build.cranes, gear),
         _ => Bounds { lo: 0, hi: 0 },
     }
 }

@@ -7,7 +7,7 @@ use native.Mathlib.Omega.{arith}
 use lib.Dec.{leb, lit<, lit≤}
 use borrow.Author.Tests.{leb-true, leb-false}
 use Rattle.formula.specs.Formula.{_//_, _·_, Side, below, above, other, at-most, at-least, Formula, lit, _⊗_, _⊘_, _↑_, bounds, by-lit, by-product, by-quotient, by-power}
-use Rattle.exact.specs.Ship.{Deadweight, Kind, bulk, gas, tanker, container, refrigerated, combination, vehicle, design-trial}
+use Rattle.exact.specs.Ship.{Deadweight, Kind, bulk, gas, tanker, container, refrigerated, combination, vehicle, general, design-trial}
 use Rattle.formula.specs.Words.{whole, percent, if}
 use Rattle.exact.specs.Index.{Capacity, V-ref}
 use Rattle.exact.specs.Index as rules
@@ -87,6 +87,7 @@ k-within gas dwt d = absurd d
 k-within refrigerated dwt d = absurd d
 k-within combination dwt d = absurd d
 k-within vehicle dwt d = absurd d
+k-within general dwt d = absurd d
 
 -- ── The trial's deadweight over Capacity ────────────────────────────────────────────────────
 

@@ -4,7 +4,7 @@ use mathlib.Core.Bool.{Bool, true, false}
 use Prim.Native.Nat.{ℕ, _+_, _*_, _^_, _≤_, min}
 use native.Mathlib.Nat.{mul-le-mul-left, mul-le-mul-right, pow-le-pow-left}
 use native.Mathlib.Omega.{arith}
-use Rattle.exact.specs.Ship.{Deadweight, Kind, bulk, gas, tanker, container, refrigerated, combination, vehicle}
+use Rattle.exact.specs.Ship.{Deadweight, Kind, bulk, gas, tanker, container, refrigerated, combination, vehicle, general}
 use Rattle.formula.specs.Words.{if}
 use Rattle.exact.specs.Index.{container?, row, sized}
 use Rattle.formula.proofs.Wholes.{mul-pow}
@@ -48,6 +48,7 @@ row-fits container = (record { j = 5; m = 15; a = 5; b = 31; c = 9 }, omega arit
 row-fits refrigerated = (record { j = 3; m = 85; a = 2; b = 13; c = 8 }, omega arith)
 row-fits combination = (record { j = 13; m = 3; a = 2; b = 15; c = 6 }, omega arith)
 row-fits vehicle = (record { j = 13; m = 3; a = 3; b = 25; c = 5 }, omega arith)
+row-fits general = (record { j = 5; m = 15; a = 3; b = 25; c = 5 }, omega arith)
 
 -- ── The deadweight, cut for a container ship ────────────────────────────────────────────────
 

@@ -37,6 +37,7 @@ fn row_of(kind: u64) -> Row
         5 => coefficients(10600, 31518, 272, 138634),
         6 => coefficients(81391, 5378, 228536, 55820),
         7 => coefficients(166773, 1802, 2627693, 39973),
+        8 => coefficients(24538, 18832, 8816, 92050),
         _ => coefficients(0, 0, 0, 0),
     }
 }

@@ -25,7 +25,7 @@ none-left =
     by-number
     (λ kind. By-design-draught (kind-of kind) → (kind ≡ 1 → ⊥) → (kind ≡ 3 → ⊥) → (kind ≡ 4 → ⊥) → ⊥)
     (length kinds)
-    (((((((tt, λ d i j k. i refl), λ d i j k. d), λ d i j k. j refl), λ d i j k. k refl), λ d i j k. d), λ d i j k. d), λ d i j k. d)
+    ((((((((tt, λ d i j k. i refl), λ d i j k. d), λ d i j k. j refl), λ d i j k. k refl), λ d i j k. d), λ d i j k. d), λ d i j k. d), λ d i j k. d)
 
 returns-7 : tie.Need-returns-7
 returns-7 c =

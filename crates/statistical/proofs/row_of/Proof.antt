@@ -19,13 +19,13 @@ returns : tie.Need-returns
 unfolding row
 returns c = filled (c .before .match .keys1) (c .coefficients .ensures)
 
--- No number from 1 to 7 is left.
-returns-8 : tie.Need-returns-8
-returns-8 c =
+-- No number from 1 to 8 is left.
+returns-9 : tie.Need-returns-9
+returns-9 c =
     let start = c .before .before in
     let rest = c .before .match .rest in
-    let h : 4 ≤ start .args .kind = omega (arith, start .pre .least, rest .0 .0 .0 .0) in
-    absurd (omega (arith, start .pre .most, rest .0 .0 .0 .1, rest .0 .0 .1, rest .0 .1, rest .1))
+    let h : 4 ≤ start .args .kind = omega (arith, start .pre .least, rest .0 .0 .0 .0 .0) in
+    absurd (omega (arith, start .pre .most, rest .0 .0 .0 .0 .1, rest .0 .0 .0 .1, rest .0 .0 .1, rest .0 .1, rest .1))
 
 pub row-of-spec : {M : Type 1} → statement M
 unfolding row
@@ -33,7 +33,8 @@ row-of-spec =
     tie.close
     (tie.spec
     (λ c κs. search needs) (λ c κs. search needs) (λ c κs. search needs) (λ c κs. search needs)
-    (λ c κs. search needs) (λ c κs. search needs) (λ c κs. search needs) (λ c κs. search needs)
+    (λ c κs. search needs) (λ c κs. search needs) (λ c κs. search needs) (λ c κs. search needs) (λ c κs. search needs)
     returns (λ c. filled (c .before .match .keys2) (c .coefficients2 .ensures)) (λ c. filled (c .before .match .keys3) (c .coefficients3 .ensures))
     (λ c. filled (c .before .match .keys4) (c .coefficients4 .ensures)) (λ c. filled (c .before .match .keys5) (c .coefficients5 .ensures))
-    (λ c. filled (c .before .match .keys6) (c .coefficients6 .ensures)) (λ c. filled (c .before .match .keys7) (c .coefficients7 .ensures)) returns-8)
+    (λ c. filled (c .before .match .keys6) (c .coefficients6 .ensures)) (λ c. filled (c .before .match .keys7) (c .coefficients7 .ensures))
+    (λ c. filled (c .before .match .keys8) (c .coefficients8 .ensures)) returns-9)
