@@ -1,3 +1,4 @@
 pub mod Rounding
+pub mod Emissions
 pub mod Laws
 pub mod Records

@@ -11,24 +11,24 @@ use Rattle.index.specs.Attained.{millionths-down, millionths-up, index-d
 
 -- ── Sizes ───────────────────────────────────────────────────────────────────────────────────
 
-module _ {c : ℕ} (w : Within (2 ^ 30) (331 * 2 ^ 30) c) where
+module _ {c : ℕ} (w : Within (2 ^ 30) (4156 * 2 ^ 30) c) where
   down : Floor (c * 1000000) (2 ^ 30) (millionths-down c)
   down = floor-is (c * 1000000) (2 ^ 30) (lit< tt)
 
   up : Ceil (c * 1000000) (2 ^ 30) (millionths-up c)
   up = ceil-is (c * 1000000) (2 ^ 30) (lit< tt)
 
-  pub down-within : Within 1000000 331000000 (millionths-down c)
+  pub down-within : Within 1000000 4156000000 (millionths-down c)
   down-within = record { least = omega (arith, w .least, down .next-above); most = omega (arith, w .most, down .at-most) }
 
-  pub up-within : Within 1000000 331000000 (millionths-up c)
+  pub up-within : Within 1000000 4156000000 (millionths-up c)
   up-within = record { least = omega (arith, w .least, up .at-least); most = omega (arith, w .most, up .previous-below) }
 
 module _ {n load v c : ℕ} (z : Sized n load v c) where
   pub work-low : 1330000000000 ≤ load * v
   work-low = mul-le-mul (z .loaded .least) (z .moving .least)
 
-  pub work-high : load * v ≤ 1449000000000000000
+  pub work-high : load * v ≤ 1487640000000000000
   work-high = mul-le-mul (z .loaded .most) (z .moving .most)
 
   pub work-some : 0 < load * v
@@ -85,21 +85,21 @@ upper-order {load = load} {c = c} z z' h k =
 
 -- ── Nearness ────────────────────────────────────────────────────────────────────────────────
 
-last : (lo hi : ℕ) → hi * 1000000000000 ≤ lo * 1000006107466 + 2000006107466 → hi * 100000 ≤ lo * 100000 + hi + 200000
+last : (lo hi : ℕ) → hi * 1000000000000 ≤ lo * 1000009107478 + 2000009107478 → hi * 100000 ≤ lo * 100000 + hi + 200000
 last lo hi h = omega arith
 
-factor-near : {c c' : ℕ} → Within (2 ^ 30) (331 * 2 ^ 30) c → Within (2 ^ 30) (331 * 2 ^ 30) c' → Gap 7451 (c * 1000000) (c' * 1000000) → Gap 2007452 (millionths-down c) (millionths-up c')
+factor-near : {c c' : ℕ} → Within (2 ^ 30) (4156 * 2 ^ 30) c → Within (2 ^ 30) (4156 * 2 ^ 30) c' → Gap 7451 (c * 1000000) (c' * 1000000) → Gap 2007452 (millionths-down c) (millionths-up c')
 factor-near w w' near = gap-cut 2000001 (lit< tt) near (down w) (up w') (omega (arith, down-within w .least))
 
--- The emission, the speed and the factor are at most 2, 2.1 and 2.007452 millionths apart, together less than a hundred-thousandth.
-pub bounds-near : {n n' load v v' c c' : ℕ} → Sized n' load v c → Sized n load v' c' → n' * 1000000 ≤ n * 1000002
+-- The emission, the speed and the factor are at most 5, 2.1 and 2.007452 millionths apart, together less than a hundred-thousandth.
+pub bounds-near : {n n' load v v' c c' : ℕ} → Sized n' load v c → Sized n load v' c' → n' * 1000000 ≤ n * 1000005
     → v' * 1000000 ≤ v * 1000000 + v' + 2000000 → c' * 2 ^ 27 ≤ c * (2 ^ 27 + 1)
     → index-up n' load v c * 100000 ≤ index-down n load v' c' * 100000 + index-up n' load v c + 200000
 bounds-near {n} {n'} {load} {v} {v'} {c} {c'} z z' nn vn cn =
-    let emission : Gap 2000000 n n' = omega arith in
+    let emission : Gap 5000000 n n' = omega arith in
     let speed : Gap 2100000 v v' = omega (arith, z .moving .least) in
     let factor = factor-near (z .factored) (z' .factored) (omega arith) in
-    let all : Gap 6107466 (n * (v * millionths-down c)) (n' * (v' * millionths-up c')) = gap-product 9 (lit≤ tt) emission (gap-product 5 (lit≤ tt) speed factor) in
-    let ends : Gap 6107466 (n * 10 ^ 15 * (load * v * millionths-down c)) (n' * 10 ^ 15 * (load * v' * millionths-up c')) =
+    let all : Gap 9107478 (n * (v * millionths-down c)) (n' * (v' * millionths-up c')) = gap-product 21 (lit≤ tt) emission (gap-product 5 (lit≤ tt) speed factor) in
+    let ends : Gap 9107478 (n * 10 ^ 15 * (load * v * millionths-down c)) (n' * 10 ^ 15 * (load * v' * millionths-up c')) =
     record { gap = omega (arith, mul-le-mul-left (load * 10 ^ 15) (all .gap)) } in
     last _ _ (gap-rounded (down-some z) (up-some z') ends (lower-floor z') (upper-ceil z))

@@ -1,12 +1,17 @@
 // The index in millionths, from below and from above, of a record that no rule refuses. Speed and index are two functions,
 // the index taking the speeds.
 use power::Bounds;
+use ship::Hull;
+use ship::Range;
 use ship::Ship;
 ghost use mathlib.Core.Path.{_≡_};
-ghost use Rattle.ship.specs.Figures.{figures};
+ghost use Prim.Native.Nat.{_≤_};
+ghost use Rattle.ship.specs.Figures.{kind-of, Listed, hull-of, figures};
+ghost use Rattle.ship.specs.Accepted.{Shaped};
 ghost use Rattle.ship.specs.Rules.{refusal-of};
 ghost use Rattle.ship.specs.declared.Refusal.the-variants as refusal;
-ghost use Rattle.index.specs.Attained.{Sized, index-down, index-up, speeds-of, index-of};
+ghost use Rattle.correction.specs.Correction.{Fast};
+ghost use Rattle.index.specs.Attained.{Sized, index-down, index-up, main-of, speeds-of, index-of};
 
 // The speed of the most and of the least favourable ship, in millionths of a knot.
 pub struct SpeedBounds {
@@ -19,7 +24,7 @@ pub struct Index {
     pub upper: u64,
 }
 
-// n / (load v c), rounded down: by load v to 63 bits, then by f_c in millionths, which is one rounding.
+// n / (load v c), rounded down: by load v to 63 bits, then by f_c times f_l in millionths, which is one rounding.
 fn lower(n: u64, load: u64, v: u64, c: u64) -> u64
     requires { ⌜ Sized n load v c ⌝ }
     ensures { λ r. ⌜ r ≡ index-down n load v c ⌝ }
@@ -39,7 +44,7 @@ fn upper(n: u64, load: u64, v: u64, c: u64) -> u64
     (q + (f - 1)) / f
 }
 
-// The speed bounds of a record that rules 4 to 16 leave. Where neither speed nor power is a range, the most and the least favourable
+// The speed bounds of a record that rules 3 to 18 leave. Where neither speed nor power is a range, the most and the least favourable
 // ship have one speed.
 pub fn speeds(s: Ship) -> SpeedBounds
     requires { ⌜ refusal-of s ≡ refusal.None ⌝ }
@@ -55,7 +60,24 @@ pub fn speeds(s: Ship) -> SpeedBounds
     SpeedBounds { most, least }
 }
 
-// The bounds of a record's index from its own speed bounds, where rules 4 to 16 leave it.
+// The main engines' emissions at the two ends of their ranges, with f_j, which only a general cargo ship has. Rule 18 shapes her hull.
+fn main_engines(kind: u64, v: Bounds, hull: Hull, main: Range) -> Range
+    requires { ⌜ Listed kind × Fast v × (kind ≡ 8 → Shaped (hull-of hull)) ⌝ }
+    requires { ⌜ (main .low ≤ 6000000000000000) × (main .high ≤ 6000000000000000) ⌝ }
+    ensures { λ r. ⌜ r .low ≡ main-of (kind-of kind) v (hull-of hull) (main .low) .lo ⌝ }
+    ensures { λ r. ⌜ r .high ≡ main-of (kind-of kind) v (hull-of hull) (main .high) .hi ⌝ }
+{
+    if kind != 8 {
+        return main;
+    }
+    let f = correction::general(v, hull);
+    Range {
+        low: number::product::scaled_down(main.low, f.lo),
+        high: number::product::scaled_up(main.high, f.hi),
+    }
+}
+
+// The bounds of a record's index from its own speed bounds, where rules 3 to 18 leave it.
 pub fn attained(s: Ship, v: SpeedBounds) -> Index
     requires { ⌜ (refusal-of s ≡ refusal.None) × (v ≡ speeds-of (figures s)) ⌝ }
     ensures { λ r. ⌜ r ≡ index-of (figures s) ⌝ }
@@ -65,8 +87,11 @@ pub fn attained(s: Ship, v: SpeedBounds) -> Index
     let least = v.least;
     let load = plant::load(s);
     let n = plant::emissions(s);
-    let low = lower(n.main.low + n.auxiliary.low, load, most.hi, c.hi);
-    let high = upper(n.main.high + n.auxiliary.high, load, least.lo, c.lo);
+    let hull = s.particulars.build.hull;
+    let own = n.main;
+    let main = main_engines(s.particulars.kind, most, hull, own);
+    let low = lower(main.low + n.auxiliary.low, load, most.hi, c.hi);
+    let high = upper(main.high + n.auxiliary.high, load, least.lo, c.lo);
     Index {
         lower: low,
         upper: high,

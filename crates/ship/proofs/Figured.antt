@@ -9,13 +9,13 @@ use borrow.Author.Tests.{eqb-true, eqb-false}
 use lib.Dec.{eqb, lit≤, eqb·suc-zero}
 use lib.ListN.{length, getD}
 use Rattle.exact.specs.Ship as exact
-use Rattle.exact.specs.Ranges.{Range, engines-at, low, high, Single, Settled}
+use Rattle.exact.specs.Ranges.{Range, engines-at, low, high, Single, Settled, Firm}
 use Rattle.formula.specs.Words.{if}
 use Rattle.exact.specs.Index.{Capacity, P-ME, sum-P-ME}
 use Rattle.ship.specs.Record.{no-engine, no-crane}
 use Rattle.ship.specs.Rules.{nonzero, outside, between, refusal-of}
 use Rattle.ship.specs.Figures.{kinds, kind-of, Listed, fuel-of, range-of, deadweight-of, uses-of, engine-of, mains, auxiliary-of, method-of, hull-of, crane-of, cranes-of, figures}
-use Rattle.ship.specs.Accepted.{Within, Ends, Limited, no-limiter, limiter, Measured, Rated, Each, no-more, one-more, Supplied, Near, By-design-draught, Sailed, Firm, Shaped, Geared, Accepted-figures}
+use Rattle.ship.specs.Accepted.{Within, Ends, Limited, no-limiter, limiter, Measured, Rated, Each, no-more, one-more, Supplied, Near, By-design-draught, Sailed, Shaped, Geared, Accepted-figures}
 use Rattle.ship.specs.declared.Consumption.{Consumption}
 use Rattle.ship.specs.declared.Engine.{Engine}
 use Rattle.ship.specs.declared.Crane.{Crane}

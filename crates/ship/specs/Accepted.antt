@@ -6,7 +6,7 @@ use mathlib.Core.List.{List, [], _∷_}
 use lib.ListN.{length}
 use Rattle.exact.specs.Ship.{Deadweight, Kind, bulk, gas, tanker, container, refrigerated, combination, vehicle, general, Consumption, recorded, neither, Engine, Auxiliary}
 use Rattle.exact.specs.Ship.{rule, table, Method, declared, trial, design-trial, statistical, Hull, Crane, Figures}
-use Rattle.exact.specs.Ranges.{Range, engines-at, low, high, Settled}
+use Rattle.exact.specs.Ranges.{Range, engines-at, low, high, Settled, Firm}
 use Rattle.exact.specs.Index.{Capacity, sum-P-ME}
 
 pub record Within (lo hi n : ℕ) : Type 0 where
@@ -68,13 +68,6 @@ Sailed (declared speed) kind dwt P = Ends 500 6000 speed
 Sailed (trial speed power) kind dwt P = Tried speed power P
 Sailed (design-trial speed power tested) kind dwt P = Tried speed power P × Near (100 * tested .tonnes) (Capacity kind dwt) × By-design-draught kind
 Sailed statistical kind dwt P = Unit {0}
-
--- Of a general cargo ship no speed is a range (refusal 14); by a trial none ever is.
-abbrev pub Firm : Method Range → Type 0
-Firm (declared speed) = speed .low ≡ speed .high
-Firm (trial speed power) = Unit {0}
-Firm (design-trial speed power tested) = Unit {0}
-Firm statistical = Unit {0}
 
 -- The hull of a general cargo ship: her volume is at most length times breadth times draught.
 pub record Shaped (h : Hull) : Type 0 where
