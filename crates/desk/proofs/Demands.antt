@@ -14,7 +14,7 @@ use mir.Val.{Val}
 use denote.Shadow.{shadow}
 use denote.Struct.Declared.{row}
 use Rattle.formula.specs.Formula.{_//_, Formula, below, above, bounds, Enclosed}
-use Rattle.exact.specs.Ship.{declared, IB-or-IC, Figures}
+use Rattle.exact.specs.Ship.{declared, general, IB-or-IC, Figures}
 use Rattle.exact.specs.Ranges.{Range, low, high, Inside, Narrowed, Stands-for, most-favourable, least-favourable}
 use Rattle.formula.specs.Words.{whole, if}
 use Rattle.exact.specs.Index.{f-c, f-m, speed, index}
@@ -33,9 +33,9 @@ use Rattle.ship.proofs.Figured.{figures-accepted}
 use Rattle.ship.proofs.Ends as ends
 use Rattle.ship.proofs.Narrowing as narrowing-of
 use Rattle.ship.proofs.Ship.{the-type}
-use Rattle.ship.proofs.Typed.{four}
+use Rattle.ship.proofs.Typed.{all-entries}
 use Rattle.fields.specs.Numbers.{Bytes}
-use Rattle.layout.specs.Layout.{encode, ship-from, ship-in}
+use Rattle.layout.specs.Layout.{encode, build-from, ship-from, ship-in}
 use Rattle.block.specs.Answers.{length-refused, block-tests, read-refusal, read-of, loaded, write-refusal, write-of}
 use Rattle.block.proofs.Theorems as block
 use Rattle.propeller.specs.Propeller.{Speed}
@@ -115,7 +115,7 @@ file-kept f n s h = rw (ne-eqb (number-of (write-refusal f n s)) 0 (λ e. h (non
 -- ── An accepted record ──────────────────────────────────────────────────────────────────────
 
 ranges-kept : {s : Ship} → Accepted-record s → Accepted-figures (figures s)
-ranges-kept {s} t = figures-accepted s (t .entries) (t .none)
+ranges-kept {s} t = figures-accepted s (t .entries .engines) (t .none)
 
 lower-is : {s : Ship} → Accepted-record s → lower s ≡ lower-of (most-favourable (figures s))
 unfolding index-of
@@ -142,13 +142,13 @@ module _ {s : Ship} {f : Figures ℕ} (t : Accepted-record s) (one : Stands-for 
   pub close : upper s * 100000 ≤ lower s * 100000 + upper s + 200000
   close = rw (lower-is t, upper-is t, stands-most one, stands-least one) (rw (stands-most one) at (law.near false (ranges-kept t)))
 
-  -- With a declared speed and f_c 1 they are the exact index rounded down and up.
-  module _ {v : Range} (method : figures s .method ≡ declared v) (full : f-c (figures s .ship .kind) (figures s .ship) ≡ whole 1) where
+  -- Of types 1 to 7 with a declared speed and f_c 1, f_i counted, they are the exact index rounded down and up.
+  module _ {v : Range} (method : figures s .method ≡ declared v) (other : figures s .ship .kind ≡ general → ⊥) (full : f-c (figures s .ship .kind) (figures s .ship) ≡ whole 1) where
     pub rounded-down : (n : ℕ) → bounds below (index f) (n // 1000000) → n ≤ lower s
-    rounded-down n h = rw (lower-is t) (law.lower-greatest false (ranges-kept t) method full n (rw (stands-most one) h))
+    rounded-down n h = rw (lower-is t) (law.lower-greatest false (ranges-kept t) method other full n (rw (stands-most one) h))
 
     pub rounded-up : (n : ℕ) → bounds above (index f) (n // 1000000) → upper s ≤ n
-    rounded-up n h = rw (upper-is t) (law.upper-least true (ranges-kept t) method full n (rw (stands-least one) h))
+    rounded-up n h = rw (upper-is t) (law.upper-least true (ranges-kept t) method other full n (rw (stands-least one) h))
 
   -- The speed is enclosed in millionths of a knot, with a difference of at most a millionth of the upper one plus two.
   pub speed-enclosed : Speed (speed f) (speed-of f)
@@ -176,7 +176,8 @@ pub bytes-back : (b : List ℕ) → Bytes b → read-refusal b ≡ None → enco
 bytes-back = block.same-bytes
 
 end-accepted : {s : Ship} (top : Bool) → Accepted-record s → Accepted-record (record-end top s)
-end-accepted {s} top t = record { entries = ends.entries-end top (s .engines) ∙ t .entries; none = ends.accepted-end top s (t .none) }
+end-accepted {s} top t =
+    record { entries = record { engines = ends.entries-end top (s .engines) ∙ t .entries .engines; gear = t .entries .gear }; none = ends.accepted-end top s (t .none) }
 
 -- ── Demand 3: with ranges ───────────────────────────────────────────────────────────────────
 
@@ -197,7 +198,7 @@ records-inside n =
 
 -- There are such records: those of the most and of the least favourable ship.
 pub ends-narrower : {s : Ship} (top : Bool) → Accepted-record s → Narrower-record s (record-end top s)
-ends-narrower {s} top t = narrowing-of.ends-narrower s (t .entries) (t .none) top
+ends-narrower {s} top t = narrowing-of.ends-narrower s (t .entries .engines) (t .none) top
 
 -- The lower bound is the one of the most favourable ship, the upper bound of the least favourable.
 pub lower-of-most : {s s' : Ship} → Accepted-record s → Accepted-record s' → Stands-for (figures s') (most-favourable (figures s)) → lower s' ≡ lower s
@@ -223,11 +224,11 @@ narrowing t t' n =
 
 -- Every value of the record's type with no refusal, and what is read from an accepted block.
 pub value-accepted : (s : Ship) (vs : List Val) → shadow (row the-type .own s vs) → refusal-of s ≡ None → Accepted-record s
-value-accepted s vs g e = record { entries = four s vs g; none = e }
+value-accepted s vs g e = record { entries = all-entries s vs g; none = e }
 
 pub block-record-accepted : (b : List ℕ) → read-refusal b ≡ None → Accepted-record (read-of b .ship)
-unfolding read-of ship-in ship-from
-block-record-accepted b e = record { entries = rw e; none = block-accepted b e }
+unfolding read-of ship-in ship-from build-from
+block-record-accepted b e = record { entries = record { engines = rw e; gear = rw e }; none = block-accepted b e }
 
 -- ── Ice classes: document 02, Req 01 ────────────────────────────────────────────────────────
 

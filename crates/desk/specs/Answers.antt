@@ -6,6 +6,7 @@ use mathlib.Core.List.{List}
 use lib.Dec.{eqb}
 use lib.ListN.{length}
 use Rattle.formula.specs.Words.{if}
+use Rattle.ship.specs.Record.{Entries}
 use Rattle.ship.specs.Refusals.{number-of}
 use Rattle.ship.specs.Rules.{refusal-of}
 use Rattle.ship.specs.Figures.{figures}
@@ -42,9 +43,9 @@ upper-in (Refused r) = 0
 
 -- ── An accepted record ──────────────────────────────────────────────────────────────────────
 
--- Four engine entries, as every value of the record's type has them, and no refusal.
+-- Its engine and crane entries, as every value of the record's type has them, and no refusal.
 pub record Accepted-record (s : Ship) : Type 0 where
-  pub entries : length (s .engines) ≡ 4
+  pub entries : Entries s
   pub none : refusal-of s ≡ None
 
 -- Its two bounds, in millionths of a gram of CO2 per tonne and nautical mile.

@@ -19,9 +19,8 @@ main-engines-requires c κs =
     let s = e .before .before .before .before .before in
     let t = s .args .s in
     let length = four t _ (s .good .0) in
-    let v = rw (s .pre .1) (own-speed t length (s .pre .0)) in
     let n = e .emissions .ensures in
-    ((numbers-accepted t (s .pre .0) .kind, v, own-hull t length (s .pre .0)), (rw n (main-small t length (s .pre .0) false), rw n (main-small t length (s .pre .0) true)))
+    ((numbers-accepted t (s .pre .0) .kind, rw (s .pre .1) (own-speed t length (s .pre .0)), own-hull t length (s .pre .0)), (rw n (main-small t length (s .pre .0) false), rw n (main-small t length (s .pre .0) true)))
 
 -- What the two roundings ask.
 lower-asked : (c : tie.After-main-engines) → let e = c .before .before .before in let f = e .before .before .before .before in
