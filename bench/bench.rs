@@ -1,4 +1,5 @@
-// Times a program against its rival on four fleets of 65,536 blocks from a fixed seed; nothing is stored.
+// Times a program against its rival on five fleets of 65,536 blocks from a fixed seed; nothing is stored.
+// The first four are the fleets of layout 1 as they were before there was another, so that times can be compared.
 // Before it is timed, every line of both is held to the reference.
 // Usage: bench ROOM RIVAL PROGRAM [ARGUMENT...]
 #[path = "../tests/breaks.rs"]
@@ -17,6 +18,8 @@ use std::process::{exit, Command, Stdio};
 use std::time::{Duration, Instant};
 
 const ROUNDS: usize = 5;
+// Layouts that were none while 1 was the only one.
+const ONCE_NO_LAYOUT: [u64; 4] = [0, 2, 0x101, 0x100];
 
 fn fail(why: &str) -> ! {
     eprintln!("bench: {}", why);
@@ -25,7 +28,7 @@ fn fail(why: &str) -> ! {
 
 // Ships of these speed methods, types in turn, every fourth with ranges.
 fn fleet(random: &mut Random, methods: &[u64], count: usize) -> Vec<Block> {
-    let kinds: Vec<(u64, u64)> = kinds().into_iter().filter(|kind| methods.contains(&kind.1)).collect();
+    let kinds: Vec<(u64, u64)> = older_kinds().into_iter().filter(|kind| methods.contains(&kind.1)).collect();
     (0..count).map(|number| {
         let (kind, method) = random.pick(&kinds);
         draw(random, kind, method, number % 4 == 0)
@@ -34,13 +37,23 @@ fn fleet(random: &mut Random, methods: &[u64], count: usize) -> Vec<Block> {
 
 // All methods, and a tenth refused.
 fn mixed(random: &mut Random) -> Vec<Block> {
-    let mut all: Vec<Block> = breaks::broken(random, 55).iter().map(|(block, _)| *block).collect();
+    let mut all: Vec<Block> = breaks::broken(random, 55, 1, &ONCE_NO_LAYOUT).iter().map(|(block, _)| *block).collect();
     let rest = fleet(random, &[1, 2, 3, 4], MOST_BLOCKS - all.len());
     all.extend(rest);
     for at in 1..all.len() {
         all.swap(at, random.from(0, at as u64) as usize);
     }
     all
+}
+
+// General cargo ships with a declared speed and one to eight cranes, every fourth with ranges of power and consumption.
+fn coasters(random: &mut Random) -> Vec<Block> {
+    (0..MOST_BLOCKS).map(|number| {
+        let mut block = draw(random, 8, 1, number % 4 == 0);
+        let count = random.from(1, 8);
+        draw_cranes(&mut block, random, count);
+        sealed(block)
+    }).collect()
 }
 
 fn command(program: &[String], path: &str) -> Command {
@@ -93,8 +106,14 @@ fn main() {
     println!("Best of {} runs on {} blocks; cost per block without the start of the program.", ROUNDS, MOST_BLOCKS);
     println!("start: program {:.1} ms, rival {:.1} ms", millis(start[0]), millis(start[1]));
     println!("{:<12}{:>14}{:>14}{:>18}{:>18}{:>10}", "ships", "program ms", "rival ms", "program us/block", "rival us/block", "ratio");
-    for (name, methods) in [("declared", &[1][..]), ("trial", &[2, 3]), ("statistical", &[4]), ("mixed", &[])].iter() {
-        let blocks = if methods.is_empty() { mixed(random) } else { fleet(random, methods, MOST_BLOCKS) };
+    for name in ["declared", "trial", "statistical", "mixed", "coasters"].iter() {
+        let blocks = match *name {
+            "declared" => fleet(random, &[1], MOST_BLOCKS),
+            "trial" => fleet(random, &[2, 3], MOST_BLOCKS),
+            "statistical" => fleet(random, &[4], MOST_BLOCKS),
+            "mixed" => mixed(random),
+            _ => coasters(random),
+        };
         let bytes: Vec<u8> = blocks.iter().flat_map(|block| block.iter().cloned()).collect();
         write(&path, &bytes).unwrap_or_else(|_| fail("no room for 32 MiB"));
         programs.iter().for_each(|program| hold_lines(program, &path, &bytes));

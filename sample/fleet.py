@@ -10,7 +10,7 @@ import struct
 import sys
 
 HERE = pathlib.Path(__file__).resolve().parent
-TYPES = ["bulk", "gas", "tanker", "container", "reefer", "combination", "vehicle"]
+TYPES = ["bulk", "gas", "tanker", "container", "reefer", "combination", "vehicle", "general"]
 FUELS = ["diesel", "light", "heavy", "propane", "butane", "lng", "methanol", "ethanol"]
 SOURCES = ["test", "maker"]
 ICE_CLASSES = {"-": 0, "IA Super": 1, "IA": 1, "IB": 2, "IC": 2}
@@ -58,6 +58,33 @@ def speed(cell):
     return 3, low, high, int(words[2]), int(words[4])
 
 
+def hull(cell):
+    """'110.00 x 18.20 x 7.05 m 10900 m3' or 'lightweight 13900 t' as lightweight and volume, and length, breadth and draught."""
+    if cell.startswith("lightweight"):
+        return (int(cell.split()[1]), 0), (0, 0, 0)
+    if cell == "-":
+        return (0, 0), (0, 0, 0)
+    *sizes, volume = re.fullmatch(r"(\S+) x (\S+) x (\S+) m (\d+) m3", cell).groups()
+    return (0, int(volume)), tuple(ends(size, 100)[0] for size in sizes)
+
+
+def cranes(cell):
+    """'2x 40.0 t 28.0 m ; 1x 60.0 t 20.0 m' as the load and reach of each crane."""
+    figures = []
+    for kind in cell.split(";") if cell != "-" else []:
+        count, load, reach = re.fullmatch(r"(\d+)x (\S+) t (\S+) m", kind.strip()).groups()
+        figures += int(count) * [(ends(load, 10)[0], ends(reach, 10)[0])]
+    return figures
+
+
+def newer(hull_cell, crane_cell):
+    """Bytes 132 to 187, which only layout 2 has."""
+    weight_and_volume, sizes = hull(hull_cell)
+    entries = cranes(crane_cell)
+    loads = b"".join(struct.pack("<HH", *entry) for entry in entries).ljust(32, b"\0")
+    return struct.pack("<IIB3x", *weight_and_volume, len(entries)) + loads + struct.pack("<III", *sizes)
+
+
 def check(data):
     a, b = 1, 0
     for byte in data:
@@ -67,15 +94,18 @@ def check(data):
 
 
 def block(row):
-    _, kind, imo, deadweight, gross_tonnage, volume, speed_cell, aux, ice, sent, aux_consumption, engine_cells = row
+    """A row with hull and cranes is a block of layout 2, one without them of layout 1."""
+    _, kind, imo, deadweight, gross_tonnage, volume, speed_cell, aux, ice, sent, *hull_and_cranes, aux_consumption, engine_cells = row
     method, low, high, trial_power, trial_deadweight = speed(speed_cell)
     engines = [engine(cell.strip()) for cell in engine_cells.split(";")]
     sfc_low, sfc_high, fuel, source = consumption(aux_consumption)
     aux_method, table_power = (1, 0) if aux == "rule" else (2, int(aux.split()[1]))
-    data = struct.pack("<HBBIIIIIIII", 1, TYPES.index(kind) + 1, method, int(imo), int(deadweight), number(gross_tonnage),
+    layout = 2 if hull_and_cranes else 1
+    data = struct.pack("<HBBIIIIIIII", layout, TYPES.index(kind) + 1, method, int(imo), int(deadweight), number(gross_tonnage),
                        number(volume), low, high, trial_power, trial_deadweight)
     data += struct.pack("<BBBBIHHB3x", aux_method, ICE_CLASSES[ice], len(engines), source, table_power, sfc_low, sfc_high, fuel)
-    data = (data + b"".join(engines)).ljust(508, b"\0")
+    data = (data + b"".join(engines)).ljust(132, b"\0")
+    data = (data + (newer(*hull_and_cranes) if hull_and_cranes else b"")).ljust(508, b"\0")
     data += check(data)
     if sent == "damaged":
         data = data[:12] + bytes([data[12] ^ 1]) + data[13:]

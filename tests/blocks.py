@@ -1,6 +1,6 @@
 #!/usr/bin/env python3
-"""Cases for the programs `files` and `fleet`, from the rules alone (docs/RULES.md): the block's table, the table of refusals, the
-writer, and what `fleet` prints for ship S in each ice class.
+"""Cases for the programs `files` and `fleet`, from the rules alone (docs/RULES.md): the tables of both layouts, the table of refusals,
+the writer, and what `fleet` prints for ship S in each ice class and with a lightweight.
 
     tests/blocks.py            writes stdin and stdout of the programs
     tests/blocks.py --check    says whether the stored ones are these
@@ -25,7 +25,12 @@ ENTRY = {"mcr_low": (0, 4), "mcr_high": (4, 4), "limit": (8, 4), "sfc_low": (12,
 for k in range(4):
     for name, (at, width) in ENTRY.items():
         PLACES[f"{name}{k}"] = (52 + 20 * k + at, width)
-ZERO = [49, 50, 51] + [52 + 20 * k + j for k in range(4) for j in (18, 19)] + list(range(132, 508))
+# Layout 2's own fields; in layout 1 they are zero.
+NEWER = {"lightweight": (132, 4), "displacement": (136, 4), "cranes": (140, 1), "length": (176, 4), "breadth": (180, 4), "draught": (184, 4)}
+for k in range(8):
+    NEWER[f"load{k}"], NEWER[f"reach{k}"] = (144 + 4 * k, 2), (146 + 4 * k, 2)
+PLACES.update(NEWER)
+ZERO = [49, 50, 51] + [52 + 20 * k + j for k in range(4) for j in (18, 19)] + [141, 142, 143] + list(range(188, 508))
 
 
 def sums(data):
@@ -57,19 +62,38 @@ def block(ship, **changed):
 # ── A second reading of the table of refusals ────────────────────────────────────────────────────
 
 
+def newer_are_right(f):
+    """Whether layout 2's own fields are as rule 18 wants them."""
+    kind, light, cranes = f["type"], f["lightweight"], f["cranes"]
+    if light and not (kind in (1, 3) and 100 <= light <= 200000):
+        return False
+    if cranes > 8 or cranes and kind != 8:
+        return False
+    for k in range(8):
+        for figure in (f[f"load{k}"], f[f"reach{k}"]):
+            if not (1 <= figure <= 10000 if k < cranes else figure == 0):
+                return False
+    length, breadth, draught = (Fraction(f[name], 100) for name in ("length", "breadth", "draught"))
+    if kind != 8:
+        return not any((length, breadth, draught, f["displacement"]))
+    if not (10 <= length <= 500 and 2 <= breadth <= 100 and Fraction(1, 2) <= draught <= 40):
+        return False
+    return 100 <= f["displacement"] <= 1000000 and f["displacement"] <= length * breadth * draught
+
+
 def refusal(piece):
     if len(piece) != 512:
         return 1
     if seal(piece) != piece:
         return 2
     f = {name: int.from_bytes(piece[at:at + width], "little") for name, (at, width) in PLACES.items()}
-    if f["layout"] != 1:
+    if f["layout"] not in (1, 2):
         return 3
     digits = f"{f['imo']:07d}"
     weighted = sum(w * int(d) for w, d in zip((7, 6, 5, 4, 3, 2), digits))
     if len(digits) != 7 or f["imo"] < 1000000 or digits[-1] != str(weighted)[-1]:
         return 4
-    if f["type"] not in range(1, 8):
+    if f["type"] not in (range(1, 8) if f["layout"] == 1 else range(1, 9)):
         return 5
     if not 100 <= f["deadweight"] <= 600000:
         return 6
@@ -107,6 +131,8 @@ def refusal(piece):
         return 14
     if method > 1 and any(low != high for low, high in [ends] + mcrs):
         return 14
+    if f["type"] == 8 and ends[0] != ends[1]:
+        return 14
     power, tonnes = f["trial_power"], f["trial_deadweight"]
     if method in (1, 4) and (power or tonnes):
         return 15
@@ -123,7 +149,9 @@ def refusal(piece):
             return 15
     if any(piece[at] for at in ZERO) or any(any(piece[52 + 20 * k:72 + 20 * k]) for k in unused):
         return 16
-    return 0
+    if f["layout"] == 1 and any(f[name] for name in NEWER):
+        return 16
+    return 0 if newer_are_right(f) else 18
 
 
 # ── Ships that are accepted ──────────────────────────────────────────────────────────────────────
@@ -138,6 +166,12 @@ DESIGN = {**S, "method": 3, "trial_power": 6000, "trial_deadweight": 40000}
 TANKER = {**DESIGN, "type": 3, "volume": 0}
 BOXES = {**DESIGN, "type": 4, "volume": 0}
 STATISTICAL = {**S, "method": 4, "speed_low": 0, "speed_high": 0}
+# Layout 2: S without any newer figure, and coasters of 5,500 t, 105.00 x 16.20 x 6.20 m and 8,000 m³, without cranes and with eight
+S2 = {**S, "layout": 2}
+COASTER = {**S2, "type": 8, "volume": 0, "deadweight": 5500, "length": 10500, "breadth": 1620, "draught": 620, "displacement": 8000}
+CRANES = {**COASTER, "cranes": 8, **{f"{name}{k}": number + k for k in range(8) for name, number in (("load", 400), ("reach", 250))}}
+COASTER_TRIAL = {**CRANES, "method": 2, "trial_power": 6000}
+COASTER_STATISTICAL = {**COASTER, "method": 4, "speed_low": 0, "speed_high": 0}
 
 
 def engine(k, mcr=8000, **more):
@@ -167,6 +201,9 @@ def same(*names):
 
 for ship in (S, OTHER, VEHICLE, TRIAL, DESIGN, TANKER, BOXES, STATISTICAL, FOUR):
     case(0, block(ship))
+    case(0, block(ship, layout=2))
+for ship in (COASTER, CRANES, COASTER_TRIAL, COASTER_STATISTICAL):
+    case(0, block(ship))
 
 # 1: not 512 bytes
 for length in (0, 1, 511, 513, 1024):
@@ -179,9 +216,10 @@ for at in (508, 509, 510, 511, 507, 0, 300):
 case(2, bytes(512))
 case(2, whole[:9] + whole[10:11] + whole[9:10] + whole[11:])  # two bytes exchanged: only B differs
 
-# 3: layout not 1
-for layout in (0, 2, 257, 256, 65535):
+# 3: layout not 1 or 2
+for layout in (0, 3, 256, 257, 258, 512, 65535):
     case(3, block(S, layout=layout))
+    case(3, block(COASTER, layout=layout))
 
 # 4: IMO number
 for imo, wanted in ((1000007, 0), (9999993, 0), (999990, 4), (10000000, 4), (9074728, 4), (9074720, 4), (1000000, 4), (9999999, 4), (0, 4), (4294967295, 4)):
@@ -195,14 +233,19 @@ for imo in (9176187, 9319466, 1234567):  # one digit of six moved on, the check 
         if str(moved)[-place - 1] != "0" and len(str(moved)) == 7:
             case(4, block(S, imo=moved))  # the weights 2 to 7 all show in the last digit
 
-# 5: type not 1–7
+# 5: type not 1–7, in layout 2 not 1–8
 case(5, block(OTHER, type=0))
 case(0, block(S, type=1))
 case(0, block(VEHICLE, type=7))
 case(5, block(OTHER, type=8))
 case(5, block(OTHER, type=255))
+case(5, block(COASTER, layout=1))
+for kind in (0, 9, 255):
+    case(5, block(OTHER, layout=2, type=kind))
+    case(5, block(COASTER, type=kind))
 for kind in (2, 3, 4, 5, 6):
     case(0, block(OTHER, type=kind))
+    case(0, block(OTHER, layout=2, type=kind))
 
 # 6: deadweight not 100–600,000
 ends(6, S, "deadweight", 100, 600000)
@@ -214,12 +257,15 @@ ends(7, VEHICLE, "gross", 100, 400000)
 case(7, block(VEHICLE, gross=0))
 case(7, block(S, gross=1))
 case(7, block(OTHER, gross=50000))
+case(7, block(COASTER, gross=1))
 
 # 8: cargo volume
 ends(8, S, "volume", 100, 1000000)
 case(8, block(S, volume=0))
 case(8, block(OTHER, volume=1))
 case(8, block(VEHICLE, volume=60000))
+case(8, block(COASTER, volume=1))
+case(8, block(COASTER, volume=8000))
 
 # 9: engines, MCR, limit
 case(9, block(S, engines=0))
@@ -267,6 +313,9 @@ case(13, block(S, method=0))
 case(13, block(STATISTICAL, method=5))
 for kind, wanted in ((1, 0), (2, 13), (3, 0), (4, 0), (5, 13), (6, 13), (7, 13)):
     case(wanted, block({**(S if kind == 1 else VEHICLE if kind == 7 else OTHER), "method": 3, "trial_power": 6000, "trial_deadweight": 40000}, type=kind))
+case(13, block(COASTER, method=3, trial_power=6000, trial_deadweight=5000))
+case(13, block(COASTER, method=5))
+ends(13, COASTER, "speed_low", 500, 6000, same("speed_high"))
 ends(13, {**S, "speed_high": 6000}, "speed_low", 500, 6000)
 ends(13, {**S, "speed_low": 500}, "speed_high", 500, 6000)
 for ship in (TRIAL, DESIGN):
@@ -288,6 +337,15 @@ for ship in (TRIAL, DESIGN, STATISTICAL):
     case(14, block(second, mcr_high1=8001))
 for ship in (TRIAL, DESIGN):
     case(14, block(ship, speed_low=1399))
+
+# 14 with type 8: no range of speed, of power and consumption as with other types
+case(14, block(COASTER, speed_low=1399))
+case(14, block(COASTER, speed_high=1401))
+case(14, block(COASTER_TRIAL, speed_low=1399))
+case(0, block(COASTER, mcr_low0=7999, sfc_low0=1799, aux_low=1999))
+for ship in (COASTER_TRIAL, COASTER_STATISTICAL):
+    case(14, block(ship, mcr_low0=7999))
+    case(0, block(ship, sfc_low0=1799, aux_low=1999))
 
 # 15: the trial
 for ship in (S, STATISTICAL):
@@ -317,10 +375,21 @@ ends(15, {**BOXES, "deadweight": 50001}, "trial_deadweight", 7001, 175003)  # 35
 case(15, block(DESIGN, trial_deadweight=4294967295))
 case(15, block(TRIAL, trial_power=4294967295))
 
-# 16: bytes that must be zero, unused engine entries
+# 16: bytes that must be zero, unused engine entries, and in layout 1 every newer field
 for at in ZERO[:11] + [132, 133, 300, 506, 507]:
     case(16, block(S, bytes={at: 1}))
     case(16, block(FOUR, bytes={at: 255}))
+for at in ZERO[:11] + [141, 142, 143, 188, 189, 300, 506, 507]:
+    case(16, block(S2, bytes={at: 1}))
+    case(16, block(CRANES, bytes={at: 255}))
+for at in range(132, 188):
+    case(16, block(S, bytes={at: 1}))
+for name, values in (("lightweight", (99, 100, 10000, 200000, 200001)), ("displacement", (100, 8000, 1000000)), ("cranes", (1, 8, 9)),
+                     ("load0", (1, 10000, 10001)), ("reach7", (1, 10000, 10001)), ("length", (999, 1000, 50000, 50001)),
+                     ("breadth", (199, 200, 10000, 10001)), ("draught", (49, 50, 4000, 4001))):
+    for value in values:
+        case(16, block(S, **{name: value}))
+case(16, block({**COASTER, "layout": 1, "type": 6}))
 for k in (1, 2, 3):
     for name in ENTRY:
         case(16, block(S, **{f"{name}{k}": 1}))
@@ -328,25 +397,87 @@ case(16, block(S, **engine(1)))
 case(16, block({**S, "engines": 3, **engine(1), **engine(2), **engine(3)}))
 case(16, block(S, mcr_low1=2, mcr_high1=1))  # an unused entry has no order
 
+# 18: the newer fields
+OTHERS = [S2] + [{**OTHER, "layout": 2, "type": kind} for kind in range(2, 7)] + [{**VEHICLE, "layout": 2}]  # all but type 8
+for ship in OTHERS[0], OTHERS[2]:
+    ends(18, ship, "lightweight", 100, 200000)
+    for value, wanted in ((0, 0), (1, 18), (4294967295, 18)):
+        case(wanted, block(ship, lightweight=value))
+for ship in [*(ship for ship in OTHERS if ship["type"] not in (1, 3)), COASTER]:
+    for value in (1, 100, 10000, 200000):
+        case(18, block(ship, lightweight=value))
+
+
+def cranes(count, filled):
+    """So many cranes by number, and so many entries filled."""
+    return {"cranes": count, **{f"{name}{k}": 300 if k < filled else 0 for k in range(8) for name in ("load", "reach")}}
+
+
+for count in range(9):
+    case(0, block(COASTER, **cranes(count, count)))
+    if count > 0:
+        case(18, block(COASTER, **cranes(count, count - 1)))
+    if count < 8:
+        case(18, block(COASTER, **cranes(count, count + 1)))
+for count in (9, 10, 255):
+    case(18, block(COASTER, **cranes(count, 8)))
+for ship in OTHERS:
+    case(18, block(ship, cranes=1, load0=300, reach0=300))
+    case(18, block(ship, cranes=1))
+    case(18, block(ship, reach7=1))
+for k in range(8):
+    for name in (f"load{k}", f"reach{k}"):
+        ends(18, CRANES, name, 1, 10000)
+        case(18, block(COASTER, **{**cranes(k, k), name: 1}))
+        case(18, block(COASTER, **{**cranes(k + 1, k + 1), name: 0}))
+case(18, block(CRANES, load3=65535))
+# Each hull figure beside figures so large that the volume fits.
+ends(18, {**COASTER, "breadth": 10000, "draught": 4000}, "length", 1000, 50000)
+ends(18, {**COASTER, "length": 50000, "draught": 4000}, "breadth", 200, 10000)
+ends(18, {**COASTER, "length": 50000, "breadth": 10000}, "draught", 50, 4000)
+ends(18, {**COASTER, "length": 50000, "breadth": 10000, "draught": 4000}, "displacement", 100, 1000000)
+for name in ("length", "breadth", "draught", "displacement"):
+    case(18, block(COASTER, **{name: 0}))
+    case(18, block(COASTER, **{name: 4294967295}))
+    case(18, block(S2, **{name: COASTER[name]}))
+    for ship in OTHERS:
+        case(18, block(ship, **{name: 1}))
+# The volume against length x breadth x draught: 100 x 20 x 5 m are 10,000 m³; 99.99 x 20.01 x 5.01 m are 10,024.007…
+for length, breadth, draught, full in ((10000, 2000, 500, 10000), (9999, 2001, 501, 10024), (1000, 200, 500, 100), (1000, 201, 500, 100),
+                                       (50000, 4000, 500, 100000), (49999, 4000, 500, 99998), (50000, 10000, 2000, 1000000)):
+    box = {"length": length, "breadth": breadth, "draught": draught}
+    for volume in (full - 1, full, full + 1):
+        case(18 if volume > full or volume < 100 else 0, block(COASTER, **box, displacement=volume))
+case(18, block(COASTER, length=1000, breadth=200, draught=499, displacement=100))
+case(18, block(COASTER, length=1000, breadth=200, draught=50, displacement=10))
+
 # The order: a block that breaks rule n and every later one
-faults = [(4, {"imo": 9074728}), (5, {"type": 8}), (6, {"deadweight": 99}), (7, {"gross": 1}), (8, {"volume": 99}), (9, {"mcr_low0": 99}),
-          (10, {"fuel0": 9}), (11, {"aux_method": 3}), (12, {"ice": 3}), (13, {"speed_high": 6001}), (14, {"aux_low": 2001}),
-          (15, {"trial_power": 1}), (16, {"bytes": {132: 1}})]
-for i, (number, _) in enumerate(faults):
-    broken = {}
-    for _, fault in faults[i:]:
-        broken.update(fault)
-    case(number, block(S, **broken))
-    case(number, block(S, **faults[i][1]))
-    if number < 16:
-        case(number, block(S, **faults[i][1], **faults[i + 1][1]))
-everything = {name: value for _, fault in faults for name, value in fault.items()}
-case(3, block(S, layout=2, **everything))
-case(2, block(S, layout=2, **everything)[:511] + b"\xff")
-case(1, (block(S, layout=2, **everything)[:511]))
+later = [(6, {"deadweight": 99}), (7, {"gross": 1}), (8, {"volume": 99}), (9, {"mcr_low0": 99}), (10, {"fuel0": 9}), (11, {"aux_method": 3}),
+         (12, {"ice": 3}), (13, {"speed_high": 6001}), (14, {"aux_low": 2001}), (15, {"trial_power": 1})]
+first = [(4, {"imo": 9074728}), (5, {"type": 8}), *later, (16, {"bytes": {132: 1}})]
+second = [(4, {"imo": 9074728}), (5, {"type": 9}), *later, (16, {"bytes": {188: 1}}), (18, {"lightweight": 99})]
+for ship, faults in ((S, first), (S2, second), (COASTER, second), (CRANES, second[:-1] + [(18, {"reach7": 0})])):
+    for i, (number, fault) in enumerate(faults):
+        broken = {}
+        for _, later_fault in faults[i:]:
+            broken.update(later_fault)
+        case(number, block(ship, **broken))
+        case(number, block(ship, **fault))
+        if number < faults[-1][0]:
+            case(number, block(ship, **fault, **faults[i + 1][1]))
+    everything = {name: value for _, fault in faults for name, value in fault.items()}
+    for layout in (0, 3):
+        case(3, block(ship, **{**everything, "layout": layout}))
+    case(2, block(ship, **everything)[:511] + b"\xff")
+    case(1, block(ship, **everything)[:511])
+case(16, block(S, lightweight=99))  # in layout 1 no figure stands there, right or wrong
+case(16, block(COASTER, bytes={141: 1}, draught=49))
+case(5, block(COASTER, layout=1, draught=49))
 
 # ── Writing ──────────────────────────────────────────────────────────────────────────────────────
 
+# A refused block has the empty record. All its figures are 0, its layout too, and a record is tested from 3.
+EMPTY = 3
 writes = []
 
 
@@ -355,7 +486,7 @@ def write(size, number, piece, wanted):
     file = bytearray((7 * i + 3) % 251 for i in range(size))
     given = bytes(file)
     read = refusal(piece)
-    answer = 4 if read else 17 if (number + 1) * 512 > size else 0  # a refused block has the empty record, whose IMO number is 0
+    answer = EMPTY if read else 17 if (number + 1) * 512 > size else 0
     assert answer == wanted, (len(writes), wanted, answer)
     if answer == 0:
         file[number * 512:(number + 1) * 512] = piece
@@ -365,18 +496,21 @@ def write(size, number, piece, wanted):
 
 
 for wanted, piece in cases:  # every block again: an accepted one is the file's afterwards, a refused one leaves it
-    write(512, 0, piece, 4 if wanted else 0)
-for ship in (S, VEHICLE, TRIAL, DESIGN, BOXES, STATISTICAL, FOUR):
+    write(512, 0, piece, EMPTY if wanted else 0)
+for ship in (S, VEHICLE, TRIAL, DESIGN, BOXES, STATISTICAL, FOUR, S2, {**S2, "lightweight": 10000}, COASTER, CRANES):
     for number in range(4):
         write(2048, number, block(ship), 0)
 for size, number, wanted in ((0, 0, 17), (511, 0, 17), (512, 0, 0), (512, 1, 17), (513, 0, 0), (1023, 1, 17), (1024, 1, 0), (1024, 2, 17),
                              (1535, 2, 17), (1536, 2, 0), (1600, 1, 0), (2047, 3, 17), (2048, 3, 0), (2048, 4, 17)):
     write(size, number, block(S), wanted)
+    write(size, number, block(CRANES), wanted)
 for number in (2 ** 55 - 1, 2 ** 55, 2 ** 55 + 1, 2 ** 56, 2 ** 63, 2 ** 64 - 1):  # number × 512 passes 2^64 from 2^55 on
     write(2048, number, block(S), 17)
-write(2048, 1, bytes(512), 4)
-write(0, 1, bytes(512), 4)
-write(2048, 2 ** 64 - 1, block(S, ice=3), 4)
+# The record's own refusal comes before 17.
+write(2048, 1, bytes(512), EMPTY)
+write(0, 1, bytes(512), EMPTY)
+write(2048, 2 ** 64 - 1, block(S, ice=3), EMPTY)
+write(512, 1, block(COASTER, draught=49), EMPTY)
 
 # ── Lines of `fleet` ─────────────────────────────────────────────────────────────────────────────
 
@@ -386,10 +520,12 @@ lines = []
 
 
 def line(piece, wanted):
-    """A refused piece, or ship S in one of the ice classes: her index in millionths, rounded down and up."""
+    """A refused piece, or ship S in one of the ice classes and with a lightweight: her index in millionths, rounded down and up. Type 8
+    isn't here: her last digits are free."""
     answer = f"refused {refusal(piece)}"
     if refusal(piece) == 0:
-        millionths = INDEX / F_M[piece[37]] * 10 ** 6
+        f_i = 1 + Fraction("0.08") * int.from_bytes(piece[132:136], "little") / 50000
+        millionths = INDEX / f_i / F_M[piece[37]] * 10 ** 6
         answer = f"9074729 {millionths // 1} {-(-millionths // 1)}"
     assert answer == wanted, (len(lines), wanted, answer)
     lines.append((piece, f"{len(lines)} {wanted}\n"))
@@ -399,6 +535,16 @@ line(block(S), "9074729 5170857 5170858")
 line(bytes(512), "refused 2")
 for ice, wanted in ((1, "9074729 4924625 4924626"), (2, "9074729 5170857 5170858"), (3, "refused 12"), (255, "refused 12")):
     line(block(S, ice=ice), wanted)
+# Layout 2 without newer figures, and f_i of 1.016, 1.00016 and 1.32
+for light, ice, wanted in ((0, 0, "9074729 5170857 5170858"), (0, 1, "9074729 4924625 4924626"), (10000, 0, "9074729 5089426 5089427"),
+                           (10000, 1, "9074729 4847072 4847073"), (10000, 2, "9074729 5089426 5089427"), (100, 0, "9074729 5170029 5170030"),
+                           (200000, 0, "9074729 3917316 3917317"), (1, 0, "refused 18"), (99, 0, "refused 18"), (200001, 0, "refused 18")):
+    line(block(S2, lightweight=light, ice=ice), wanted)
+for piece, wanted in ((block(S, layout=3), 3), (block(S, layout=258), 3), (block(COASTER, layout=1), 5), (block(COASTER, type=9), 5),
+                      (block(COASTER, method=3, trial_power=6000, trial_deadweight=5000), 13), (block(COASTER, speed_low=1399), 14),
+                      (block(S, lightweight=10000), 16), (block(CRANES, reach7=0, bytes={143: 1}), 16), (block(S2, cranes=1, load0=300, reach0=280), 18),
+                      (block(CRANES, reach7=0), 18), (block(COASTER, displacement=10547), 18), (block(CRANES, cranes=9), 18)):
+    line(piece, f"refused {wanted}")
 
 # ── Stored ───────────────────────────────────────────────────────────────────────────────────────
 
@@ -409,7 +555,7 @@ MADE = {
     "fleet/stdout": "".join(text for _, text in lines).encode(),
 }
 given = {wanted for wanted, _ in cases}
-assert given == set(range(17)), given
+assert given == {*range(17), 18}, given
 if sys.argv[1:] == ["--check"]:
     wrong = [name for name, data in MADE.items() if open(os.path.join(ROOT, name), "rb").read() != data]
     print(f"tests/blocks.py: {len(cases)} blocks, {len(writes)} writes; " + ("not as stored: " + ", ".join(wrong) if wrong else "as stored"))

@@ -55,7 +55,7 @@ fn break_auxiliary(block: &mut Block, random: &mut Random) {
 fn break_speed(block: &mut Block, random: &mut Random) {
     let end = random.pick(&SPEED);
     match (get(block, METHOD), get(block, TYPE)) {
-        (_, 2) | (_, 5) | (_, 6) | (_, 7) if random.one_in(3) => put(block, METHOD, 3),
+        (_, 2) | (_, 5) | (_, 6) | (_, 7) | (_, 8) if random.one_in(3) => put(block, METHOD, 3),
         _ if random.one_in(3) => put(block, METHOD, random.pick(&[0, 5, 255])),
         (4, _) => put(block, end, random.pick(&[1, 500, 0x0100_0000])),
         _ => put(block, end, random.pick(&[0, 499, 6_001, 0xffff_ffff])),
@@ -69,7 +69,8 @@ fn break_range(block: &mut Block, random: &mut Random) {
     match random.from(0, 3) {
         0 => put_consumption(block, random.pick(&[4, engine]), [2_000, 1_999], 1, 1),
         1 if method != 4 => {
-            let above = method == 1 || random.one_in(2);
+            // A general cargo ship has no range of speed even where it is declared.
+            let above = (method == 1 && get(block, TYPE) != 8) || random.one_in(2);
             put(block, SPEED[0], if above { 1_501 } else { 1_500 });
             put(block, SPEED[1], if above { 1_500 } else { 1_501 });
         }
@@ -96,17 +97,68 @@ fn break_zeros(block: &mut Block, random: &mut Random) {
     let count = get(block, ENGINES).min(4) as usize;
     let engine = 20 * used(block, random);
     let unused = random.from(52 + 20 * count as u64, 507) as usize;
-    let at = random.pick(&[49, 50, 51, 132, 507, unused, unused.min(131), 70 + engine, 71 + engine]);
+    let at = match get(block, LAYOUT) {
+        1 => random.pick(&[49, 50, 51, 132, 507, unused, unused.min(131), 70 + engine, 71 + engine]),
+        _ => random.pick(&[49, 50, 51, 141, 142, 143, 188, 507, unused.max(188), unused.min(131), 70 + engine, 71 + engine]),
+    };
     block[at] = random.from(1, 255) as u8;
 }
 
-// Breaks rule 3 to 16; rule 2 is broken after sealing, rule 1 by cutting the file.
-fn break_rule(block: &mut Block, random: &mut Random, rule: u64) {
+fn break_lightweight(block: &mut Block, random: &mut Random) {
+    let wrong = match get(block, TYPE) {
+        1 | 3 => random.pick(&[1, 99, 200_001, 0xffff_ffff]),
+        _ => random.pick(&[1, 100, 200_000, 0x0100_0000]),
+    };
+    put(block, LIGHTWEIGHT, wrong);
+}
+
+fn break_cranes(block: &mut Block, random: &mut Random) {
+    let (count, figure) = (random.from(1, 8), random.from(0, 1) as usize);
+    let unused = get(block, CRANES).min(7);
+    match random.from(0, 3) {
+        0 => put(block, CRANES, random.pick(&[9, 255])),
+        // Right cranes, but on a ship that can have none.
+        1 if get(block, TYPE) != 8 => draw_cranes(block, random, count),
+        1 | 2 => {
+            draw_cranes(block, random, count);
+            put(block, crane(random.from(0, count - 1) as usize)[figure], random.pick(&[0, 10_001, 65_535]));
+        }
+        _ => {
+            draw_cranes(block, random, unused);
+            put(block, crane(random.from(unused, 7) as usize)[figure], random.pick(&[1, 10_000, 65_535]));
+        }
+    }
+}
+
+fn break_hull(block: &mut Block, random: &mut Random) {
+    let place = random.from(0, 3) as usize;
+    let too_full = box_volume(block) / 1_000_000 + 1;
+    match (get(block, TYPE), place) {
+        (8, 3) => put(block, DISPLACEMENT, random.pick(&[0, 99, 1_000_001, too_full, 0xffff_ffff])),
+        (8, _) => {
+            let (low, high) = HULL_ENDS[place];
+            put(block, HULL[place], random.pick(&[0, low - 1, high + 1, 0xffff_ffff]));
+        }
+        (_, 3) => put(block, DISPLACEMENT, random.pick(&[1, 100, 0x0100_0000])),
+        _ => put(block, HULL[place], random.pick(&[1, 1_000, 0x0100_0000])),
+    }
+}
+
+fn break_type(block: &mut Block, random: &mut Random) {
+    match (get(block, LAYOUT), get(block, TYPE)) {
+        (1, _) => put(block, TYPE, random.pick(&[0, 8, 255])),
+        (_, 8) if random.one_in(2) => put(block, LAYOUT, 1),
+        _ => put(block, TYPE, random.pick(&[0, 9, 255])),
+    }
+}
+
+// Breaks rule 3 to 16 or 18; rule 2 is broken after sealing, rule 1 by cutting the file.
+fn break_rule(block: &mut Block, random: &mut Random, rule: u64, no_layout: &[u64]) {
     let imo = get(block, IMO);
     match rule {
-        3 => put(block, LAYOUT, random.pick(&[0, 2, 0x101, 0x100])),
+        3 => put(block, LAYOUT, random.pick(no_layout)),
         4 => put(block, IMO, random.pick(&[imo / 10 * 10 + (imo + random.0 % 9 + 1) % 10, imo_of(imo / 100), imo_of(imo)])),
-        5 => put(block, TYPE, random.pick(&[0, 8, 255])),
+        5 => break_type(block, random),
         6 | 7 | 8 => break_sizes(block, random, rule),
         9 => break_engine(block, random),
         10 => break_consumption(block, random),
@@ -115,30 +167,32 @@ fn break_rule(block: &mut Block, random: &mut Random, rule: u64) {
         13 => break_speed(block, random),
         14 => break_range(block, random),
         15 => break_trial(block, random),
-        _ => break_zeros(block, random),
+        16 => break_zeros(block, random),
+        _ => random.pick(&[break_lightweight, break_cranes, break_hull])(block, random),
     }
 }
 
-// Ships that break one rule, and ships that break two: the first one's number is the answer.
-pub fn broken(random: &mut Random, each: usize) -> Vec<(Block, u8)> {
+// Ships of a layout that break one rule, and ships that break two: the first one's number is the answer. What layout 1 could
+// break of rule 18, rule 16 refuses.
+pub fn broken(random: &mut Random, each: usize, layout: u64, no_layout: &[u64]) -> Vec<(Block, u8)> {
+    let rules: Vec<u64> = (2..17).chain(if layout == 1 { None } else { Some(18) }).collect();
     let mut all = Vec::new();
-    for first in 2..17 {
-        for second in first..17 {
+    for (place, first) in rules.iter().enumerate() {
+        for second in &rules[place..] {
             for _ in 0..each {
-                let (kind, method) = random.pick(&kinds());
-                let mut block = draw(random, kind, method, random.0 & 1 == 0);
+                let mut block = draw_any(random, layout);
                 if second > first {
-                    break_rule(&mut block, random, second);
+                    break_rule(&mut block, random, *second, no_layout);
                 }
-                if first > 2 {
-                    break_rule(&mut block, random, first);
+                if *first > 2 {
+                    break_rule(&mut block, random, *first, no_layout);
                 }
                 seal(&mut block);
-                if first == 2 {
+                if *first == 2 {
                     let at = random.from(508, 511) as usize;
                     block[at] ^= random.from(1, 255) as u8;
                 }
-                all.push((block, first as u8));
+                all.push((block, *first as u8));
             }
         }
     }

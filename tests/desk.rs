@@ -9,13 +9,15 @@ use std::os::unix::io::AsFd;
 
 pub const BLOCK: usize = 512;
 pub const MOST_BLOCKS: usize = 65_536;
-// Above the error of a few dozen double operations, far below any gap that is tested.
+// Far above the error of the doubles here and far below any gap that is tested. The worst is a general cargo ship by method 4: with
+// every operation, constant and exponent off by a rounding (2^-53) and a root by eight, her speed is off by at most 26 of them, Fn by
+// 35, Fn^2.3 by 90 and the index by 135, which is 1.5e-14. Elsewhere it is less.
 pub const DOUBLE_ERROR: f64 = 1e-12;
 
 #[derive(Clone, Copy, Debug, PartialEq)]
 pub enum Answer {
     Refused(u8),
-    // Method 1 and f_c = 1: the exact fraction's floor and ceiling.
+    // Types 1 to 7, method 1 and f_c = 1: the exact fraction's floor and ceiling.
     Exact { imo: u32, lower: u64, upper: u64 },
     // The index of the most and of the least favourable ship, in millionths.
     Near { imo: u32, favourable: f64, least: f64, ranged: bool },
@@ -32,6 +34,7 @@ pub struct Engine {
 
 #[derive(Clone, Copy, Default, Debug)]
 pub struct Ship {
+    pub layout: u16,
     pub kind: u8,
     pub method: u8,
     pub imo: u32,
@@ -47,6 +50,14 @@ pub struct Ship {
     pub table_power: u32,
     pub auxiliary: Engine,
     pub engine: [Engine; 4],
+    pub lightweight: u32,
+    // Displacement in m³.
+    pub displacement: u32,
+    pub cranes: u8,
+    // Load and reach of each, in tenths of a tonne and of a metre.
+    pub crane: [[u16; 2]; 8],
+    // Length, breadth and draught, in hundredths of a metre.
+    pub hull: [u32; 3],
 }
 
 fn word(block: &[u8], at: usize) -> u32 {
@@ -68,7 +79,9 @@ fn engine_at(block: &[u8], at: usize) -> Engine {
 }
 
 pub fn fields(block: &[u8]) -> Ship {
+    let crane_at = |at: usize| [half(block, at), half(block, at + 2)];
     Ship {
+        layout: half(block, 0),
         kind: block[2],
         method: block[3],
         imo: word(block, 4),
@@ -84,6 +97,13 @@ pub fn fields(block: &[u8]) -> Ship {
         table_power: word(block, 40),
         auxiliary: Engine { sfc: [half(block, 44), half(block, 46)], fuel: block[48], source: block[39], ..Engine::default() },
         engine: [engine_at(block, 52), engine_at(block, 72), engine_at(block, 92), engine_at(block, 112)],
+        lightweight: word(block, 132),
+        displacement: word(block, 136),
+        cranes: block[140],
+        crane: [
+            crane_at(144), crane_at(148), crane_at(152), crane_at(156), crane_at(160), crane_at(164), crane_at(168), crane_at(172),
+        ],
+        hull: [word(block, 176), word(block, 180), word(block, 184)],
     }
 }
 
@@ -134,6 +154,29 @@ impl Ship {
     // In tenths of a tonne: the deadweight, or 70 % of it.
     pub fn capacity(&self) -> u64 {
         self.deadweight as u64 * if self.kind == 4 { 7 } else { 10 }
+    }
+    // Capacity with f_i, in fiftieths of a tonne: 8 % of the lightweight joins the deadweight. Only types 1 and 3 have one.
+    fn carried(&self) -> u64 {
+        5 * self.capacity() + 4 * self.lightweight as u64
+    }
+    // f_l: what each used crane adds to the Capacity, in millionths of a tonne. Only type 8 has cranes.
+    fn crane_factor(&self) -> f64 {
+        let of = |crane: &[u16; 2]| 519 * crane[0] as u64 * crane[1] as u64 + 32_110_000;
+        let added: u64 = self.crane[..self.cranes as usize].iter().map(of).sum();
+        1.0 + added as f64 / (1e6 * self.deadweight as f64)
+    }
+    // Length times breadth times draught, in millionths of a m³.
+    fn box_volume(&self) -> u64 {
+        self.hull.iter().map(|size| *size as u64).product()
+    }
+    // Fn before its cap.
+    pub fn froude(&self, knots: f64) -> f64 {
+        0.5144 * knots / (9.81 * (self.displacement as f64).cbrt()).sqrt()
+    }
+    // f_j, before its cap, of a general cargo ship with that Fn.
+    pub fn hull_factor(&self, froude: f64) -> f64 {
+        let fullness = 1e6 * self.displacement as f64 / self.box_volume() as f64;
+        0.174 / (froude.powf(2.3) * fullness.powf(0.3))
     }
     pub fn main_power(&self, end: usize) -> u64 {
         self.used().iter().map(|engine| engine.main_power(end)).sum()
@@ -191,6 +234,7 @@ fn ranges_are_right(ship: &Ship) -> bool {
         && ordered(&ship.auxiliary)
         && ship.used().iter().all(ordered)
         && (ship.method == 1 || (ship.speed[0] == ship.speed[1] && same_power))
+        && (ship.kind != 8 || ship.speed[0] == ship.speed[1])
 }
 
 // Neither is above five times the other.
@@ -208,10 +252,40 @@ fn trial_is_right(ship: &Ship) -> bool {
     }
 }
 
-fn rest_is_zero(block: &[u8], engines: u8) -> bool {
-    let unused = 52 + 20 * engines as usize;
+// In layout 1 every newer field is empty too.
+fn rest_is_zero(block: &[u8], ship: &Ship) -> bool {
+    let engines = ship.engines as usize;
+    let after = if ship.layout == 1 { 132 } else { 188 };
     let zero = |bytes: &[u8]| bytes.iter().fold(0, |all, byte| all | byte) == 0;
-    zero(&block[49..52]) && zero(&block[unused..508]) && (0..engines as usize).all(|i| zero(&block[70 + 20 * i..72 + 20 * i]))
+    zero(&block[49..52])
+        && zero(&block[52 + 20 * engines..132])
+        && zero(&block[141..144])
+        && zero(&block[after..508])
+        && (0..engines).all(|i| zero(&block[70 + 20 * i..72 + 20 * i]))
+}
+
+fn lightweight_is_right(ship: &Ship) -> bool {
+    ship.lightweight == 0 || ([1, 3].contains(&ship.kind) && (100..=200_000).contains(&ship.lightweight))
+}
+
+fn cranes_are_right(ship: &Ship) -> bool {
+    let count = ship.cranes as usize;
+    if count > 8 || (count > 0 && ship.kind != 8) {
+        return false;
+    }
+    let (used, unused) = ship.crane.split_at(count);
+    used.iter().flatten().all(|figure| (1..=10_000).contains(figure)) && unused.iter().flatten().all(|figure| *figure == 0)
+}
+
+fn hull_is_right(ship: &Ship) -> bool {
+    if ship.kind != 8 {
+        return ship.hull == [0, 0, 0] && ship.displacement == 0;
+    }
+    (1_000..=50_000).contains(&ship.hull[0])
+        && (200..=10_000).contains(&ship.hull[1])
+        && (50..=4_000).contains(&ship.hull[2])
+        && (100..=1_000_000).contains(&ship.displacement)
+        && 1_000_000 * ship.displacement as u64 <= ship.box_volume()
 }
 
 // The first rule of the table that the block breaks, or the ship.
@@ -219,10 +293,10 @@ pub fn read(block: &[u8]) -> Result<Ship, u8> {
     let keep = |right: bool, number: u8| if right { Ok(()) } else { Err(number) };
     keep(block.len() == BLOCK, 1)?;
     keep(check(block) == (half(block, 508), half(block, 510)), 2)?;
-    keep(half(block, 0) == 1, 3)?;
     let ship = fields(block);
+    keep([1, 2].contains(&ship.layout), 3)?;
     keep(imo_is_right(ship.imo), 4)?;
-    keep((1..=7).contains(&ship.kind), 5)?;
+    keep((1..=7).contains(&ship.kind) || (ship.kind, ship.layout) == (8, 2), 5)?;
     keep((100..=600_000).contains(&ship.deadweight), 6)?;
     keep(tonnage_is_right(&ship), 7)?;
     keep(volume_is_right(&ship), 8)?;
@@ -233,14 +307,15 @@ pub fn read(block: &[u8]) -> Result<Ship, u8> {
     keep(speed_is_right(&ship), 13)?;
     keep(ranges_are_right(&ship), 14)?;
     keep(trial_is_right(&ship), 15)?;
-    keep(rest_is_zero(block, ship.engines), 16)?;
+    keep(rest_is_zero(block, &ship), 16)?;
+    keep(lightweight_is_right(&ship) && cranes_are_right(&ship) && hull_is_right(&ship), 18)?;
     Ok(ship)
 }
 
-// Grams of CO2 an hour, in ten-millionths.
-fn emissions(ship: &Ship, end: usize) -> u64 {
-    let main: u64 = ship.used().iter().map(|engine| 10 * engine.main_power(end) * engine.emission(end, 1_900)).sum();
-    main + ship.aux_power(end) * ship.auxiliary.emission(end, 2_150)
+// Grams of CO2 an hour, in ten-millionths: of the main engines, and of the auxiliaries.
+fn emissions(ship: &Ship, end: usize) -> (u64, u64) {
+    let main = ship.used().iter().map(|engine| 10 * engine.main_power(end) * engine.emission(end, 1_900)).sum();
+    (main, ship.aux_power(end) * ship.auxiliary.emission(end, 2_150))
 }
 
 // f_m in hundredths: IA Super and IA, class 1, have 1.05; IB and IC, class 2, have 1 as a ship without a class has.
@@ -250,7 +325,8 @@ fn ice_factor(ship: &Ship) -> u64 {
 
 // The index in millionths as a fraction; `end` 0 is the most favourable ship, which has the high speed.
 fn fraction(ship: &Ship, end: usize) -> (u128, u64) {
-    (emissions(ship, end) as u128 * 10_000, ship.capacity() * ship.speed[1 - end] as u64 * ice_factor(ship))
+    let (main, auxiliary) = emissions(ship, end);
+    ((main + auxiliary) as u128 * 50_000, ship.carried() * ship.speed[1 - end] as u64 * ice_factor(ship))
 }
 
 // Quotient and whether anything is left; the short division where the number is short.
@@ -270,7 +346,8 @@ fn statistics(ship: &Ship) -> (f64, f64) {
         4 => (3.2395, 0.18294, 0.5042, 1.03046),
         5 => (1.0600, 0.31518, 0.0272, 1.38634),
         6 => (8.1391, 0.05378, 22.8536, 0.55820),
-        _ => (16.6773, 0.01802, 262.7693, 0.39973),
+        7 => (16.6773, 0.01802, 262.7693, 0.39973),
+        _ => (2.4538, 0.18832, 0.8816, 0.92050),
     };
     let (speed_cap, power_cap) = if ship.kind == 4 { (80_000, 95_000) } else { (u32::MAX, u32::MAX) };
     let average: f64 = a * (ship.deadweight.min(speed_cap) as f64).powf(c);
@@ -303,10 +380,16 @@ pub fn speed(ship: &Ship, end: usize) -> f64 {
     }
 }
 
-// The index in millionths, as a double.
+// The index in millionths, as a double. f_j is the main engines' alone, and goes by V_ref whatever its method.
 fn near_index(ship: &Ship, end: usize) -> f64 {
-    let under = ship.light_cargo_factor() * ship.capacity() as f64 * speed(ship, end) * ice_factor(ship) as f64;
-    emissions(ship, end) as f64 * 100.0 / under
+    let knots = speed(ship, end);
+    let (main, auxiliary) = emissions(ship, end);
+    let over = match ship.kind {
+        8 => main as f64 * ship.hull_factor(ship.froude(knots).min(0.6)).min(1.0) + auxiliary as f64,
+        _ => (main + auxiliary) as f64,
+    };
+    let factors = ship.light_cargo_factor() * ship.crane_factor() * ice_factor(ship) as f64;
+    over * 500.0 / (factors * ship.carried() as f64 * knots)
 }
 
 pub fn answer(block: &[u8]) -> Answer {
@@ -315,7 +398,7 @@ pub fn answer(block: &[u8]) -> Answer {
         Err(number) => return Answer::Refused(number),
     };
     let imo = ship.imo;
-    if ship.method == 1 && !ship.has_light_cargo() {
+    if ship.kind != 8 && ship.method == 1 && !ship.has_light_cargo() {
         let (lower, _) = divide(fraction(&ship, 0));
         let (whole, left) = divide(fraction(&ship, 1));
         return Answer::Exact { imo, lower, upper: whole + left as u64 };

@@ -1,4 +1,4 @@
-// Blocks at every threshold of the document, and damaged ones. The reference decides what each must be answered.
+// Blocks at every threshold of the fields that both layouts have, and damaged ones. The reference decides what each must be answered.
 use ships::*;
 
 fn fields() -> Vec<Vec<Field>> {
@@ -58,8 +58,9 @@ pub fn at_imo_ends(random: &mut Random, out: &mut Vec<Block>) {
 // Deadweights at which k, a cap or the speed margin changes; V_avg passes 20 knots where 5 % of it is one knot.
 fn turning_sizes(kind: u64) -> Vec<u64> {
     let mut sizes = vec![100, 80_000, 95_000, 100_000, 120_000, 200_000, 600_000];
-    let law: [(f64, f64); 7] = [
+    let law: [(f64, f64); 8] = [
         (10.6585, 0.02706), (7.4462, 0.07604), (8.1358, 0.05383), (3.2395, 0.18294), (1.0600, 0.31518), (8.1391, 0.05378), (16.6773, 0.01802),
+        (2.4538, 0.18832),
     ];
     let (a, c) = law[kind as usize - 1];
     sizes.push((20.0 / a).powf(1.0 / c).min(500_000.0) as u64);
@@ -176,7 +177,7 @@ pub fn at_trials(random: &mut Random, out: &mut Vec<Block>) {
 fn damage(block: &mut Block, random: &mut Random, bytes: u64) {
     for _ in 0..bytes {
         let at = random.from(0, 511) as usize;
-        let at = if random.one_in(2) { at } else { at % 132 };
+        let at = if random.one_in(2) { at } else { at % 188 };
         block[at] ^= random.from(1, 255) as u8;
     }
 }
@@ -192,19 +193,18 @@ fn hidden_damage(block: &mut Block, random: &mut Random) {
 }
 
 pub fn damaged(random: &mut Random, count: usize, out: &mut Vec<Block>) {
-    for _ in 0..count {
-        let (kind, method) = random.pick(&kinds());
-        let mut block = draw(random, kind, method, random.0 & 1 == 0);
+    for number in 0..count as u64 {
+        let mut block = draw_any(random, 1 + number % 2);
         match random.from(0, 7) {
             0 | 1 => damage(&mut block, random, 1),
             2 => { let bytes = random.from(2, 40); damage(&mut block, random, bytes) }
             3 => hidden_damage(&mut block, random),
             // Two neighbours changed places: only the second sum sees it.
-            4 => { let at = random.from(0, 130) as usize; block.swap(at, at + 1) }
+            4 => { let at = random.from(0, 186) as usize; block.swap(at, at + 1) }
             5 => { damage(&mut block, random, 1); seal(&mut block) }
             6 => { let bytes = random.from(2, 6); damage(&mut block, random, bytes); seal(&mut block) }
             // So many set bytes that the first sum passes 65,536.
-            _ => { block[132..508].iter_mut().for_each(|byte| *byte = 255); seal(&mut block) }
+            _ => { block[188..508].iter_mut().for_each(|byte| *byte = 255); seal(&mut block) }
         }
         out.push(block);
     }
@@ -212,13 +212,16 @@ pub fn damaged(random: &mut Random, count: usize, out: &mut Vec<Block>) {
 
 // Wholly random bytes; sealed ones too, some with the first fields right so that later rules are reached.
 pub fn random_bytes(random: &mut Random, count: usize, out: &mut Vec<Block>) {
-    for _ in 0..count {
+    for number in 0..count as u64 {
         let mut block = [0; 512];
         block.iter_mut().for_each(|byte| *byte = random.next() as u8);
-        let (kind, method) = random.pick(&kinds());
-        let ship = draw(random, kind, method, false);
-        let right = random.pick(&[0, 0, 2, 4, 8, 12, 16, 20, 52, 72, 132]);
+        let ship = draw_any(random, 1 + number % 2);
+        let right = random.pick(&[0, 0, 2, 4, 8, 12, 16, 20, 52, 72, 132, 144, 176, 188]);
         block[..right].copy_from_slice(&ship[..right]);
+        // Layout 2's fields, with nothing behind them.
+        if right > 20 && random.one_in(2) {
+            block[right.max(188)..508].iter_mut().for_each(|byte| *byte = 0);
+        }
         if !random.one_in(3) {
             seal(&mut block);
         }
@@ -245,11 +248,24 @@ pub fn at_whole_index(random: &mut Random, out: &mut Vec<Block>) {
             put(&mut block, AUX_METHOD, 2);
             put(&mut block, TABLE_POWER, 4_620 * random.from(1, 10));
             out.push(sealed(block));
+            if (kind == 1 || kind == 3) && deadweight > 1_100 {
+                out.push(with_lightweight(block));
+            }
             let power = get(&block, mcr(0)[0]);
             put(&mut block, mcr(0)[1], power + 1);
             out.push(sealed(block));
         }
     }
+}
+
+// The same index with f_i: 1,000 t less of deadweight, and a lightweight of which 8 % are 1,000 t.
+fn with_lightweight(mut block: Block) -> Block {
+    let deadweight = get(&block, DEADWEIGHT) - 1_000;
+    let volume = if get(&block, TYPE) == 1 { 20 * deadweight / 11 } else { 0 };
+    for (field, value) in &[(LAYOUT, 2), (LIGHTWEIGHT, 12_500), (DEADWEIGHT, deadweight), (CARGO_VOLUME, volume)] {
+        put(&mut block, *field, *value);
+    }
+    sealed(block)
 }
 
 // Ships with every figure at one of its ends: the largest and the smallest numbers that can come up.
@@ -273,6 +289,9 @@ pub fn at_extremes(random: &mut Random, out: &mut Vec<Block>) {
             put(&mut block, AUX_METHOD, 2);
             put(&mut block, TABLE_POWER, random.pick(&[1, 50_000]));
             put_extreme_trial(&mut block, random);
+            if kind == 8 {
+                put_extreme_hull(&mut block, random);
+            }
             out.push(sealed(block));
         }
     }
@@ -284,6 +303,17 @@ fn put_extreme_trial(block: &mut Block, random: &mut Random) {
     let trial = random.pick(&[(power + 499) / 500, (power / 20).min(600_000)]);
     put(block, TRIAL_POWER, if method == 2 || method == 3 { trial } else { 0 });
     put(block, TRIAL_DEADWEIGHT, if method == 3 { random.pick(&[(size + 49) / 50, size / 2]) } else { 0 });
+}
+
+// The longest, broadest and deepest hull or the shortest, narrowest and shallowest that carries the volume; all cranes or none.
+fn put_extreme_hull(block: &mut Block, random: &mut Random) {
+    for (field, (low, high)) in HULL.iter().zip(&HULL_ENDS) {
+        put(block, *field, if random.one_in(2) { *low } else { *high });
+    }
+    let full = (box_volume(block) / 1_000_000).max(100).min(1_000_000);
+    put(block, DISPLACEMENT, random.pick(&[100, full]));
+    let (figure, count) = (random.pick(&[1, 10_000]), random.pick(&[0, 1, 8]));
+    put_cranes(block, &vec![[figure, figure]; count]);
 }
 
 // Trial power at the end of its field, which only ships of more than 120,000 kW come near.

@@ -9,18 +9,25 @@ mod desk;
 mod edges;
 #[path = "hold.rs"]
 mod hold;
+#[path = "hulls.rs"]
+mod hulls;
 #[path = "program.rs"]
 mod program;
 #[path = "ships.rs"]
 mod ships;
+#[path = "slips.rs"]
+mod slips;
 
 use desk::{Answer, BLOCK, MOST_BLOCKS};
 use edges::*;
+use hulls::*;
 use ships::*;
 use std::process::exit;
 use std::thread::spawn;
 
 const SEED: u64 = 0x9e37_79b9_7f4a_7c15;
+// Layouts that there are none of; some have a right first byte.
+const NO_LAYOUT: [u64; 6] = [0, 3, 0x100, 0x101, 0x102, 0x200];
 
 fn fail(why: &str) -> ! {
     eprintln!("fleet: {}", why);
@@ -46,6 +53,14 @@ fn fifteen_knots() -> Block {
         }
         put_both(block, SPEED, 1_000);
         put_both(block, mcr(0), 9_000);
+    })
+}
+
+// S in layout 2, with that lightweight.
+fn s_in_layout_2(lightweight: u64) -> Block {
+    like_s(&|block| {
+        put(block, LAYOUT, 2);
+        put(block, LIGHTWEIGHT, lightweight);
     })
 }
 
@@ -96,6 +111,15 @@ fn figures(program: &[String]) {
         (like_s(&|block| put_consumption(block, 0, [0, 0], 3, 1)), "refused 10"),
         (like_s(&|block| put_consumption(block, 4, [0, 0], 1, 1)), "refused 10"),
         (like_s(&|block| put_consumption(block, 0, [0, 0], 0, 1)), "refused 10"),
+        // f_i: 5,170,857.142857 over 1.016, 1.00016 and 1.32.
+        (s_in_layout_2(0), "9074729 5170857 5170858"),
+        (s_in_layout_2(10_000), "9074729 5089426 5089427"),
+        (s_in_layout_2(100), "9074729 5170029 5170030"),
+        (s_in_layout_2(200_000), "9074729 3917316 3917317"),
+        (s_in_layout_2(99), "refused 18"),
+        (s_in_layout_2(200_001), "refused 18"),
+        (like_s(&|block| put(block, LIGHTWEIGHT, 10_000)), "refused 16"),
+        (like_s(&|block| put(block, LAYOUT, 3)), "refused 3"),
     ];
     let mut bytes: Vec<u8> = blocks.iter().flat_map(|(block, _)| block.to_vec()).collect();
     bytes.extend(&ship_s()[..511]);
@@ -106,25 +130,65 @@ fn figures(program: &[String]) {
         fail(&format!("the figures should be\n{}but are\n{}", right, text));
     }
     trial_figure(program);
+    coaster_figures(program);
 }
 
 // 6,750 x 3.114 x 180 + 450 x 3.206 x 200 = 4,072,050 g/h; over 50,000 t x 15 knots that is 5.4294 g.
 fn trial_figure(program: &[String]) {
-    let text = or_fail("the trial at 15 knots", program::by_pipe(program, &fifteen_knots(), None).whole());
+    encloses(program, "the trial at 15 knots", fifteen_knots(), 5_429_400, 5_429_400);
+}
+
+// The coaster emits 3,000 x 3.114 x 180 = 1,681,560 g/h by her main engine and 200 x 3.206 x 200 = 128,240 by her auxiliaries.
+// Fn is 0.5144 V / sqrt(196.2) and Cb 8,000 / 10,546.2 = 0.758567:
+//   10 knots: Fn 0.367241, where f_j would be 1.893, so 1; 1,809,800 / (5,500 x 10) = 32.9054545 g
+//   14 knots: Fn 0.514138, f_j 0.8731085; 1,596,424.331 / (5,500 x 14) = 20.7327835 g
+//   18 knots: Fn 0.661034, so 0.6, f_j 0.6120729; 1,157,477.367 / (5,500 x 18) = 11.6916906 g
+//   12 knots on trial at 1,500 kW, so 15.1190526: Fn 0.555234, f_j 0.7315705; 1,358,419.647 / (5,500 x 15.1190526) = 16.3360362 g
+//   V_avg 12.422936 less 5 %, MCR_avg 2,444.981, so 13.9062293: Fn 0.510694, f_j 0.8867090; 1,619,294.358 over that = 21.1716022 g
+// Cranes of 40 t at 25 m and 60 t at 20 m: 178.4 t join the 5,500, which makes 31.8716540 g at 10 knots, 20.0814154 g at 14.
+fn coaster_figures(program: &[String]) {
+    let with_cranes = |mut block: Block| {
+        put_cranes(&mut block, &[[400, 250], [600, 200]]);
+        sealed(block)
+    };
+    let by_method = |method: u64, speed: u64, trial_power: u64| {
+        let mut block = coaster(speed);
+        put(&mut block, METHOD, method);
+        put(&mut block, TRIAL_POWER, trial_power);
+        sealed(block)
+    };
+    encloses(program, "the coaster at 10 knots", coaster(1_000), 32_905_454, 32_905_455);
+    encloses(program, "the coaster at 14 knots", coaster(1_400), 20_732_783, 20_732_784);
+    encloses(program, "the coaster at 18 knots", coaster(1_800), 11_691_690, 11_691_691);
+    encloses(program, "the coaster on trial", by_method(2, 1_200, 1_500), 16_336_036, 16_336_037);
+    encloses(program, "the coaster by statistics", by_method(4, 0, 0), 21_171_602, 21_171_603);
+    encloses(program, "the coaster with cranes at 10 knots", with_cranes(coaster(1_000)), 31_871_653, 31_871_654);
+    encloses(program, "the coaster with cranes at 14 knots", with_cranes(coaster(1_400)), 20_081_415, 20_081_416);
+}
+
+// The index lies between two whole numbers, so the bounds enclose both, and are no farther apart than they may be.
+fn encloses(program: &[String], name: &str, block: Block, floor: u64, ceiling: u64) {
+    let text = or_fail(name, program::by_pipe(program, &block, None).whole());
     let figures: Vec<u64> = text.split_whitespace().filter_map(|word| word.parse().ok()).collect();
     match figures[..] {
-        [0, 9_074_729, lower, upper] if lower <= 5_429_400 && 5_429_400 <= upper && upper - lower <= 56 => {}
-        _ => fail(&format!("the trial at 15 knots should enclose 5429400 but printed {}", text)),
+        [0, 9_074_729, lower, upper] if lower <= floor && ceiling <= upper && 100_000 * (upper - lower) <= upper + 200_000 => {}
+        _ => fail(&format!("{} should enclose {} and {} but printed {}", name, floor, ceiling, text)),
     }
 }
 
 // Every block, in an order that mixes the kinds.
 fn blocks(random: &mut Random) -> Vec<Block> {
     let mut all = Vec::new();
-    for (kind, method) in kinds() {
+    for (kind, method) in older_kinds() {
         for each in 0..2_500 {
             all.push(draw(random, kind, method, each % 3 == 0));
         }
+        for each in 0..if kind == 1 || kind == 3 { 1_600 } else { 100 } {
+            all.push(draw_layout_2(random, kind, method, each % 3 == 0));
+        }
+    }
+    for each in 0..22_500 {
+        all.push(draw(random, 8, [1, 2, 4][each % 3], each % 4 == 0));
     }
     at_field_ends(random, &mut all);
     at_imo_ends(random, &mut all);
@@ -138,9 +202,19 @@ fn blocks(random: &mut Random) -> Vec<Block> {
     at_largest_trials(random, &mut all);
     at_whole_index(random, &mut all);
     at_extremes(random, &mut all);
+    at_newer_field_ends(random, &mut all);
+    at_lightweight_ends(random, &mut all);
+    at_hull_ends(random, &mut all);
+    at_full_hulls(random, &mut all);
+    at_crane_counts(random, &mut all);
+    at_crane_ends(random, &mut all);
+    at_froude_cap(random, &mut all);
+    at_hull_factor_cap(random, &mut all);
     damaged(random, 15_000, &mut all);
     random_bytes(random, 10_000, &mut all);
-    for (block, rule) in breaks::broken(random, 150) {
+    let mut broken = breaks::broken(random, 150, 1, &NO_LAYOUT);
+    broken.extend(breaks::broken(random, 100, 2, &NO_LAYOUT));
+    for (block, rule) in broken {
         if desk::answer(&block) != Answer::Refused(rule) {
             fail(&format!("the reference gives {:?} to a ship that breaks rule {} first", desk::answer(&block), rule));
         }
@@ -154,15 +228,44 @@ fn blocks(random: &mut Random) -> Vec<Block> {
 
 #[derive(Default)]
 struct Count {
-    accepted: [[u64; 5]; 8],
-    light: [[u64; 5]; 8],
+    accepted: [[u64; 5]; 9],
+    light: [[u64; 5]; 9],
+    // Layout 2 by type; those with f_i by whether they are exact.
+    newer: [u64; 9],
+    structural: [u64; 2],
+    coasters: Coasters,
     ice: [u64; 3],
     whole: u64,
     exact: u64,
     near: u64,
     exact_ranged: u64,
     near_ranged: u64,
-    refused: [u64; 17],
+    refused: [u64; 19],
+}
+
+// General cargo ships, by what changes their index.
+#[derive(Default)]
+struct Coasters {
+    ranged: u64,
+    with_cranes: u64,
+    // Fn up to 0.6 and above; of those up to it f_j up to 1 and above, and likewise of those above it.
+    caps: [[u64; 2]; 2],
+    // Fn and f_j within a ten-thousandth of their caps, on either side.
+    near_caps: [[u64; 2]; 2],
+}
+
+impl Coasters {
+    fn add(&mut self, ship: &desk::Ship) {
+        let froude = ship.froude(desk::speed(ship, 0));
+        let factor = ship.hull_factor(froude.min(0.6));
+        let sides = [(froude, 0.6), (factor, 1.0)];
+        self.ranged += ship.has_ranges() as u64;
+        self.with_cranes += (ship.cranes > 0) as u64;
+        self.caps[(froude > 0.6) as usize][(factor > 1.0) as usize] += 1;
+        for (place, (figure, cap)) in sides.iter().enumerate().filter(|(_, (figure, cap))| (figure / cap - 1.0).abs() < 1e-4) {
+            self.near_caps[place][(figure > cap) as usize] += 1;
+        }
+    }
 }
 
 impl Count {
@@ -175,6 +278,11 @@ impl Count {
         self.accepted[kind][method] += 1;
         self.light[kind][method] += ship.has_light_cargo() as u64;
         self.ice[ship.ice as usize] += 1;
+        self.newer[kind] += (ship.layout == 2) as u64;
+        self.structural[matches!(answer, Answer::Exact { .. }) as usize] += (ship.lightweight > 0) as u64;
+        if kind == 8 {
+            self.coasters.add(&ship);
+        }
         if let Answer::Exact { lower, upper, .. } = answer {
             self.whole += (lower == upper) as u64;
         }
@@ -190,7 +298,8 @@ impl Count {
         let mut few = Vec::new();
         let mut want = |what: String, count: u64, least: u64| if count < least { few.push(format!("{}: {} of {}", what, count, least)) };
         for (kind, method) in kinds() {
-            want(format!("type {} method {}", kind, method), self.accepted[kind as usize][method as usize], 2_000);
+            let least = if kind == 8 { 7_000 } else { 2_000 };
+            want(format!("type {} method {}", kind, method), self.accepted[kind as usize][method as usize], least);
             if kind == 1 || kind == 7 {
                 want(format!("light cargo, type {} method {}", kind, method), self.light[kind as usize][method as usize], 500);
             }
@@ -198,8 +307,19 @@ impl Count {
         for class in 0..3 {
             want(format!("ice class {}", class), self.ice[class], 15_000);
         }
-        for rule in 1..17 {
+        for rule in (1..17).chain(18..19) {
             want(format!("refusal {}", rule), self.refused[rule], 500);
+        }
+        for kind in 1..9 {
+            want(format!("layout 2, type {}", kind), self.newer[kind], if kind == 8 { 20_000 } else { 200 });
+        }
+        want("f_i".to_string(), self.structural[0] + self.structural[1], 10_000);
+        want("f_i, exact".to_string(), self.structural[1], 2_000);
+        want("general cargo, ranged".to_string(), self.coasters.ranged, 5_000);
+        want("general cargo with cranes".to_string(), self.coasters.with_cranes, 10_000);
+        for side in 0..4 {
+            want(format!("side {} of both caps", side), self.coasters.caps[side / 2][side % 2], 1_000);
+            want(format!("side {} near a cap", side), self.coasters.near_caps[side / 2][side % 2], 200);
         }
         want("exact and whole".to_string(), self.whole, 300);
         for (what, count) in &[("exact", self.exact), ("exact ranged", self.exact_ranged), ("near", self.near), ("near ranged", self.near_ranged)] {
@@ -208,7 +328,7 @@ impl Count {
         few
     }
     fn print(&self) {
-        for kind in 1..8 {
+        for kind in 1..9 {
             let by_method: Vec<String> = (1..5).map(|method| self.accepted[kind][method].to_string()).collect();
             println!("fleet: type {} accepted by methods 1-4: {}", kind, by_method.join(" "));
         }
@@ -216,7 +336,11 @@ impl Count {
         println!("fleet: exact {} and ranged {}, {} of them whole", self.exact, self.exact_ranged, self.whole);
         println!("fleet: near {} and ranged {}; light cargo {}", self.near, self.near_ranged, light);
         println!("fleet: ice classes 0, 1 and 2 accepted: {:?}", self.ice);
-        let refused: Vec<String> = (1..17).map(|rule| format!("{}: {}", rule, self.refused[rule])).collect();
+        println!("fleet: layout 2 accepted by types 1-8: {:?}; with f_i {:?}, the latter exact", &self.newer[1..], self.structural);
+        let Coasters { ranged, with_cranes, caps, near_caps } = &self.coasters;
+        println!("fleet: general cargo with ranges {}, with cranes {}", ranged, with_cranes);
+        println!("fleet: Fn up to 0.6 and above, each with f_j up to 1 and above: {:?}; close to these caps: {:?}", caps, near_caps);
+        let refused: Vec<String> = (1..17).chain(18..19).map(|rule| format!("{}: {}", rule, self.refused[rule])).collect();
         println!("fleet: refused by {}", refused.join(", "));
     }
 }
@@ -267,11 +391,10 @@ fn all_lines(program: &[String], all: &[Block], count: &mut Count) -> (Vec<Strin
     let (mut lines, mut wrong) = run(program, "a file with too many blocks", &bytes[..most + 3 * BLOCK + 100], How::File, count);
     // The sample was written by another hand than these blocks; the test runs in the repository's root.
     let sample = std::fs::read("sample/fleet.blocks").unwrap_or_else(|_| fail("sample/fleet.blocks cannot be read from here"));
-    for (name, input, how) in vec![
-        ("a pipe with too many blocks that stays open", &bytes[most..2 * most + 70_000], How::OpenPipe),
-        ("a pipe", &bytes[2 * most..], How::Pipe),
-        ("the sample", &sample[..], How::File),
-    ] {
+    let mut inputs = vec![("a pipe with too many blocks that stays open", &bytes[most..2 * most + 70_000], How::OpenPipe)];
+    inputs.extend(bytes[2 * most..].chunks(most).map(|part| ("a pipe", part, How::Pipe)));
+    inputs.push(("the sample", &sample[..], How::File));
+    for (name, input, how) in inputs {
         let (more, faults) = run(program, name, input, how, count);
         lines.extend(more);
         wrong += faults;
@@ -298,22 +421,37 @@ fn same_elsewhere(program: &[String], all: &[Block], lines: &[String], count: &m
     wrong
 }
 
-// IB and IC (2) have f_m 1, as a ship without a class (0) has: in either the same ship gets the very same words.
-fn same_in_class_2(program: &[String], all: &[Block], count: &mut Count) -> usize {
-    let accepted = |of: (u64, u64)| {
-        all.iter().filter(move |block| (get(block, TYPE), get(block, METHOD)) == of && desk::read(&block[..]).is_ok()).take(100)
+// So many accepted ships of each of these kinds.
+fn accepted(all: &[Block], kinds: Vec<(u64, u64)>, layouts: &[u64], each: usize) -> Vec<Block> {
+    let of = |kind: (u64, u64)| {
+        let fits = move |block: &&Block| (get(block, TYPE), get(block, METHOD)) == kind && layouts.contains(&get(block, LAYOUT));
+        all.iter().filter(fits).filter(|block| desk::read(&block[..]).is_ok()).take(each)
     };
-    let ships: Vec<Block> = kinds().into_iter().flat_map(accepted).cloned().collect();
-    let mut lines_in = |class: u64| {
-        let mut blocks = ships.clone();
-        blocks.iter_mut().for_each(|block| { put(block, ICE, class); seal(block) });
-        run(program, &format!("ice class {}", class), &bytes_of(&blocks), How::Pipe, count)
+    kinds.into_iter().flat_map(of).cloned().collect()
+}
+
+// With either number in that field the same ship gets the very same words.
+fn same_words(program: &[String], name: &str, ships: &[Block], field: Field, numbers: [u64; 2], count: &mut Count) -> usize {
+    let mut lines_with = |number: u64| {
+        let mut blocks = ships.to_vec();
+        blocks.iter_mut().for_each(|block| { put(block, field, number); seal(block) });
+        run(program, &format!("{} {}", name, number), &bytes_of(&blocks), How::Pipe, count)
     };
-    let ((without, wrong), (with, faults)) = (lines_in(0), lines_in(2));
-    if let Some((right, line)) = without.iter().zip(&with).find(|(right, line)| right != line) {
-        fail(&format!("in ice class 2 a ship is answered '{}', without a class '{}'", line, right));
+    let ((right, wrong), (lines, faults)) = (lines_with(numbers[0]), lines_with(numbers[1]));
+    if let Some((right, line)) = right.iter().zip(&lines).find(|(right, line)| right != line) {
+        fail(&format!("in {} {} a ship is answered '{}', in {} '{}'", name, numbers[1], line, numbers[0], right));
     }
     wrong + faults
+}
+
+// IB and IC (2) have f_m 1, as a ship without a class (0) has.
+fn same_in_class_2(program: &[String], all: &[Block], count: &mut Count) -> usize {
+    same_words(program, "ice class", &accepted(all, kinds(), &[1, 2], 100), ICE, [0, 2], count)
+}
+
+// Types 1 to 7 in layout 2 with no newer figure are what they are in layout 1.
+fn same_in_layout_2(program: &[String], all: &[Block], count: &mut Count) -> usize {
+    same_words(program, "layout", &accepted(all, older_kinds(), &[1], 300), LAYOUT, [1, 2], count)
 }
 
 // A last piece of each length from 1 to 511, alone or after ship S; two runs at a time.
@@ -363,11 +501,13 @@ fn self_check() {
     let mut ranged = s_with_ranges();
     put(&mut ranged, CARGO_VOLUME, 100_000);
     let answers: Vec<Answer> = [ic, light, sealed(ranged), [0; BLOCK]].iter().map(|block| desk::answer(block)).collect();
-    let (slips, missed) = hold::uncaught(&answers);
+    let (slips, mut missed) = hold::uncaught(&answers);
+    let (readings, unseen) = slips::uncaught();
+    missed.extend(unseen);
     if !missed.is_empty() {
         fail(&format!("not caught: {}", missed.join(", ")));
     }
-    println!("fleet: {} kinds of wrong output, each caught", slips);
+    println!("fleet: {} kinds of wrong output and {} of wrong readings, each caught", slips, readings);
 }
 
 fn main() {
@@ -387,6 +527,7 @@ fn main() {
     if wrong == 0 {
         wrong += same_elsewhere(&program, &all, &lines, &mut count);
         wrong += same_in_class_2(&program, &all, &mut count);
+        wrong += same_in_layout_2(&program, &all, &mut count);
     }
     reader_gone(&program, &all);
     let short = tails(&program);

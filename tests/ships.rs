@@ -1,4 +1,4 @@
-// Blocks for the tests and the benchmark: the layout, ship S, and ships drawn by chance that no rule refuses.
+// Blocks for the tests and the benchmark: both layouts, ship S, a coaster, and ships drawn by chance that no rule refuses.
 // A block is built byte by byte from the document's layout; nothing here knows how the reference reads it.
 #![allow(dead_code)]
 
@@ -50,6 +50,12 @@ pub const AUX_SOURCE: Field = Field(39, 1);
 pub const TABLE_POWER: Field = Field(40, 4);
 pub const AUX_SFC: [Field; 2] = [Field(44, 2), Field(46, 2)];
 pub const AUX_FUEL: Field = Field(48, 1);
+// Layout 2 alone: lightweight, displacement volume, number of cranes; length, breadth and draught with the ends they may have.
+pub const LIGHTWEIGHT: Field = Field(132, 4);
+pub const DISPLACEMENT: Field = Field(136, 4);
+pub const CRANES: Field = Field(140, 1);
+pub const HULL: [Field; 3] = [Field(176, 4), Field(180, 4), Field(184, 4)];
+pub const HULL_ENDS: [(u64, u64); 3] = [(1_000, 50_000), (200, 10_000), (50, 4_000)];
 
 pub fn mcr(engine: usize) -> [Field; 2] {
     [Field(52 + 20 * engine, 4), Field(56 + 20 * engine, 4)]
@@ -63,6 +69,11 @@ pub fn limit(engine: usize) -> Field {
 pub fn consumption(engine: usize) -> ([Field; 2], Field, Field) {
     let at = 64 + 20 * engine;
     if engine == 4 { (AUX_SFC, AUX_FUEL, AUX_SOURCE) } else { ([Field(at, 2), Field(at + 2, 2)], Field(at + 4, 1), Field(at + 5, 1)) }
+}
+
+// A crane's load and reach.
+pub fn crane(number: usize) -> [Field; 2] {
+    [Field(144 + 4 * number, 2), Field(146 + 4 * number, 2)]
 }
 
 pub fn put(block: &mut Block, field: Field, value: u64) {
@@ -116,6 +127,29 @@ pub fn ship_s() -> Block {
     put_consumption(&mut block, 0, [1_800, 1_800], 3, 1);
     put_consumption(&mut block, 4, [2_000, 2_000], 1, 1);
     sealed(block)
+}
+
+// A coaster, general cargo in layout 2, that can be followed by hand: 5,500 t, one engine of 4,000 kW with the consumptions of S,
+// 105.00 x 16.20 x 6.20 m, and a volume of 8,000 m³, whose cube root is 20. She declares so many hundredths of a knot.
+pub fn coaster(speed: u64) -> Block {
+    let mut block = ship_s();
+    let figures = [(LAYOUT, 2), (TYPE, 8), (DEADWEIGHT, 5_500), (CARGO_VOLUME, 0), (DISPLACEMENT, 8_000)];
+    for (field, value) in figures.iter().chain(&[(HULL[0], 10_500), (HULL[1], 1_620), (HULL[2], 620)]) {
+        put(&mut block, *field, *value);
+    }
+    put_both(&mut block, SPEED, speed);
+    put_both(&mut block, mcr(0), 4_000);
+    sealed(block)
+}
+
+// So many cranes, each a load and a reach in tenths, and no figure in the other entries.
+pub fn put_cranes(block: &mut Block, cranes: &[[u64; 2]]) {
+    put(block, CRANES, cranes.len() as u64);
+    for number in 0..8 {
+        let figures = cranes.get(number).unwrap_or(&[0, 0]);
+        put(block, crane(number)[0], figures[0]);
+        put(block, crane(number)[1], figures[1]);
+    }
 }
 
 pub fn put_consumption(block: &mut Block, engine: usize, sfc: [u64; 2], fuel: u64, source: u64) {
@@ -192,7 +226,8 @@ fn draw_speed(block: &mut Block, random: &mut Random, ranged: bool) {
     if method == 4 {
         return;
     }
-    let ends = draw_ends(random, 500, 6_000, ranged && method == 1);
+    // f_j goes by the speed: a general cargo ship has a single one.
+    let ends = draw_ends(random, 500, 6_000, ranged && method == 1 && get(block, TYPE) != 8);
     put(block, SPEED[0], ends[0]);
     put(block, SPEED[1], ends[1]);
     draw_trial(block, random);
@@ -207,7 +242,55 @@ pub fn draw_trial(block: &mut Block, random: &mut Random) {
     put(block, TRIAL_DEADWEIGHT, if method == 3 { deadweight } else { 0 });
 }
 
-// A ship of that type and speed method that no rule refuses.
+// V_ref of a general cargo ship in knots, for hulls about the caps of Fn and f_j.
+pub fn speed_of(block: &Block) -> f64 {
+    let (power, size) = (main_power(block) as f64 / 100.0, get(block, DEADWEIGHT) as f64);
+    let average = 2.4538 * size.powf(0.18832);
+    let (knots, other) = match get(block, METHOD) {
+        1 => (get(block, SPEED[0]) as f64 / 100.0, power),
+        2 => (get(block, SPEED[0]) as f64 / 100.0, get(block, TRIAL_POWER) as f64),
+        _ => (average - 1.0f64.min(0.05 * average), 0.75 * 0.8816 * size.powf(0.92050)),
+    };
+    knots * (power / other).cbrt()
+}
+
+// The volume in m³ with which Fn is so much at that speed.
+pub fn volume_at(knots: f64, froude: f64) -> f64 {
+    ((0.5144 * knots / froude).powi(2) / 9.81).powi(3)
+}
+
+// A hull of that volume, or of less where none is so large; most are as full and as slender as ships are.
+pub fn put_hull(block: &mut Block, random: &mut Random, volume: u64) {
+    let fullness = if random.one_in(8) { random.from(1, 300) } else { random.from(300, 1_000) } as f64 / 1_000.0;
+    let (slender, flat) = (random.from(400, 900) as f64 / 100.0, random.from(150, 400) as f64 / 100.0);
+    let draught = (volume as f64 / fullness / (slender * flat * flat)).cbrt();
+    for (place, size) in [slender * flat * draught, flat * draught, draught].iter().enumerate() {
+        let (low, high) = HULL_ENDS[place];
+        put(block, HULL[place], ((100.0 * size).ceil() as u64).max(low).min(high));
+    }
+    put(block, DISPLACEMENT, volume.min(box_volume(block) / 1_000_000));
+}
+
+// Length times breadth times draught, in millionths of a m³.
+pub fn box_volume(block: &Block) -> u64 {
+    HULL.iter().map(|field| get(block, *field)).product()
+}
+
+// Most volumes make Fn 0.40 to 0.70, so that either side of both caps is met.
+fn draw_hull(block: &mut Block, random: &mut Random) {
+    let volume = match random.one_in(4) {
+        true => random.any_size(100, 1_000_000),
+        false => volume_at(speed_of(block), random.from(400, 700) as f64 / 1_000.0) as u64,
+    };
+    put_hull(block, random, volume.max(100).min(1_000_000));
+}
+
+pub fn draw_cranes(block: &mut Block, random: &mut Random, count: u64) {
+    let cranes: Vec<[u64; 2]> = (0..count).map(|_| [random.any_size(1, 10_000), random.any_size(1, 10_000)]).collect();
+    put_cranes(block, &cranes);
+}
+
+// A ship of that type and speed method that no rule refuses; in layout 1 where the type is in it.
 pub fn draw(random: &mut Random, kind: u64, method: u64, ranged: bool) -> Block {
     let mut block = [0; 512];
     for (field, value) in &[(LAYOUT, 1), (TYPE, kind), (METHOD, method), (IMO, imo_of(random.from(100_000, 999_999)))] {
@@ -222,11 +305,39 @@ pub fn draw(random: &mut Random, kind: u64, method: u64, ranged: bool) -> Block 
         put(&mut block, AUX_METHOD, 2);
         put(&mut block, TABLE_POWER, random.any_size(1, 50_000));
     }
+    if kind == 8 {
+        put(&mut block, LAYOUT, 2);
+        draw_hull(&mut block, random);
+        let count = if random.one_in(3) { 0 } else { random.from(1, 8) };
+        draw_cranes(&mut block, random, count);
+    }
     sealed(block)
+}
+
+// The same in layout 2, where most bulk carriers and tankers are under the common structural rules.
+pub fn draw_layout_2(random: &mut Random, kind: u64, method: u64, ranged: bool) -> Block {
+    let mut block = draw(random, kind, method, ranged);
+    put(&mut block, LAYOUT, 2);
+    if (kind == 1 || kind == 3) && !random.one_in(8) {
+        put(&mut block, LIGHTWEIGHT, random.any_size(100, 200_000));
+    }
+    sealed(block)
+}
+
+// A ship of any kind in that layout.
+pub fn draw_any(random: &mut Random, layout: u64) -> Block {
+    let (kind, method) = random.pick(&if layout == 1 { older_kinds() } else { kinds() });
+    let ranged = random.0 & 1 == 0;
+    if layout == 1 { draw(random, kind, method, ranged) } else { draw_layout_2(random, kind, method, ranged) }
 }
 
 // Every type with every speed method it may have.
 pub fn kinds() -> Vec<(u64, u64)> {
-    let all = (1..=7).flat_map(|kind| (1..=4).map(move |method| (kind, method)));
+    let all = (1..=8).flat_map(|kind| (1..=4).map(move |method| (kind, method)));
     all.filter(|(kind, method)| *method != 3 || [1, 3, 4].contains(kind)).collect()
+}
+
+// Those that layout 1 has.
+pub fn older_kinds() -> Vec<(u64, u64)> {
+    kinds().into_iter().filter(|(kind, _)| *kind != 8).collect()
 }
