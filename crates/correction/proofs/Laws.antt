@@ -15,7 +15,7 @@ use Rattle.power.specs.declared.Bounds.{Bounds}
 use Rattle.power.specs.Numbers.{unit}
 use Rattle.ship.specs.Accepted.{Shaped}
 use Rattle.propeller.specs.Propeller.{Speed}
-use Rattle.correction.specs.Correction.{Fast, Within-limits, inverse-froude, inverse-block, raised-of, capped-of, product-of, general-of, Corrected}
+use Rattle.correction.specs.Correction.{Fast, Within-limits, inverse-froude, inverse-block, speed-part, hull-part, capped-of, product-of, general-of, Corrected}
 use Rattle.correction.proofs.Stretch.{Raised, raised-law}
 use Rattle.correction.proofs.Froude.{froude-above, froude-below, froude-limits, froude-spread, froude-near}
 use Rattle.correction.proofs.Block.{block-low, block-above, block-below, block-spread, block-near}
@@ -52,13 +52,6 @@ module _ (a y c : Bounds) (n : ℕ) (size : Within-limits a) (py : Raised (15 * 
       not-full k = omega arith
 
 -- ── f_j of a general cargo ship ─────────────────────────────────────────────────────────────
-
--- The powers 3/10 of 1/Fn and of 1/C_b.
-abbrev speed-part : Bounds → Hull → Bounds
-speed-part v h = raised-of (15 * 2 ^ 26) (inverse-froude v h .lo) (inverse-froude v h .hi)
-
-abbrev hull-part : Hull → Bounds
-hull-part h = raised-of (2 ^ 28) (inverse-block h) (inverse-block h + 1)
 
 module _ {v : Bounds} {h : Hull} (fast : Fast v) (shaped : Shaped h) where
   size : Within-limits (inverse-froude v h)

@@ -35,6 +35,7 @@ inverse-froude-down w v = w * (78888 * 750) * 1250 ^ 2 / (v * (25187 * 643))
 unfoldable pub inverse-froude-up : (w v : ℕ) → ℕ
 inverse-froude-up w v = ceil-of (w * (225899 * 750) * 1250 ^ 2) (v * (72124 * 643))
 
+-- The faster the ship, the less is 1/Fn: the lower end has the upper speed.
 abbrev pub sixth-root : Hull → Bounds
 sixth-root h = power-of (h .volume) 1 1 6
 
@@ -65,6 +66,13 @@ pub record Spread (u a b : ℕ) : Type 0 where
 unfoldable pub raised-of : (u a b : ℕ) → Bounds
 raised-of u a b = let y = power-of a u 3 10 in pair (y .lo) (y .hi + ceil-of (y .hi * (3 * (b - a))) (10 * a))
 
+-- Of 1/Fn, and of 1/C_b, whose upper end is the next unit.
+abbrev pub speed-part : Bounds → Hull → Bounds
+speed-part v h = raised-of (15 * 2 ^ 26) (inverse-froude v h .lo) (inverse-froude v h .hi)
+
+abbrev pub hull-part : Hull → Bounds
+hull-part h = raised-of (2 ^ 28) (inverse-block h) (inverse-block h + 1)
+
 -- ── The product ─────────────────────────────────────────────────────────────────────────────
 
 -- 0.174 / Fn^2 in 2^-30.
@@ -88,10 +96,7 @@ product-of a y c = let f = scaled-of (squared-of a) (scaled-of y c) in pair (cap
 
 -- The lower and the upper end, in units of 2^-30. Their last digits are a matter of this definition, and not of the rules.
 unfoldable pub general-of : Bounds → Hull → Bounds
-general-of v h =
-    let a = inverse-froude v h in
-    let e = inverse-block h in
-    product-of a (raised-of (15 * 2 ^ 26) (a .lo) (a .hi)) (raised-of (2 ^ 28) e (e + 1))
+general-of v h = product-of (inverse-froude v h) (speed-part v h) (hull-part h)
 
 -- What may be used of it: the two ends enclose the formula, and are from 0.46 up to 1.
 pub record Corrected (f : Formula) (r : Bounds) : Type 0 where

@@ -35,7 +35,7 @@ fn inverse_froude_up(w: u64, v: u64) -> u64
     number::division::ceil_scaled(w * 169424250, v * 46375732, 1250, 2)
 }
 
-// The faster the ship, the less is 1/Fn.
+// The faster the ship, the less is 1/Fn: the lower end has the upper speed.
 fn inverse_froude(v: Bounds, hull: Hull) -> Bounds
     requires { ⌜ Fast v × Shaped (hull-of hull) ⌝ }
     ensures { λ r. ⌜ r ≡ inverse-froude v (hull-of hull) ⌝ }

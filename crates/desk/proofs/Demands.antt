@@ -2,31 +2,35 @@
 -- `bounds_of_block` answer `answer-of` and `answer-of-block`, for every record and every slice of bytes.
 -- Assumes nothing.
 use Prim.Native.Nat.{ℕ, zero, suc, _+_, _*_, _^_, _≤_, _<_}
-use mathlib.Core.Path.{_≡_, refl, sym, ap, _∙_}
-use mathlib.Core.List.{List, _∷_}
+use mathlib.Core.Path.{_≡_, refl, sym, ap, ap₂, _∙_}
+use mathlib.Core.List.{List, [], _∷_}
 use native.Mathlib.Nat.{lt-of-le-of-lt}
 use native.Mathlib.Omega.{arith}
 use lib.ListN.{length}
 use lib.Dec.{eqb}
-use borrow.Author.Tests.{ne-eqb, lt-ltb, ltb-true}
+use borrow.Author.Tests.{eq-eqb, ne-eqb, eqb-true, lt-ltb, le-ltb, ltb-true, not-false}
 use mathlib.Core.Logic.{_↔_}
 use mir.Val.{Val}
 use denote.Shadow.{shadow}
 use denote.Struct.Declared.{row}
 use Rattle.formula.specs.Formula.{_//_, Formula, below, above, bounds, Enclosed}
-use Rattle.exact.specs.Ship.{declared, general, IB-or-IC, Figures}
+use Rattle.exact.specs.Ship.{Deadweight, Kind, Particulars, declared, general, IB-or-IC, Figures}
 use Rattle.exact.specs.Ranges.{Range, low, high, Inside, Narrowed, Stands-for, most-favourable, least-favourable}
 use Rattle.formula.specs.Words.{whole, if}
-use Rattle.exact.specs.Index.{f-c, f-m, speed, index}
+use Rattle.exact.specs.Index.{f-c, f-i, f-l, f-m, speed, index}
 use Rattle.formula.proofs.Formulas.{consistent}
+use Rattle.exact.proofs.Rules.{f-i-none, f-l-none}
 use Rattle.exact.proofs.Favour.{stands-most, stands-least, inside-enclosed, ship-inside, low-inside, high-inside}
+use Rattle.ship.specs.Record.{no-build, in-layout}
 use Rattle.ship.specs.Figures.{figures, ice-of}
 use Rattle.ship.specs.Refusals.{number-of, First, given}
-use Rattle.ship.specs.Rules.{tests, refusal-of, ice-refused}
-use Rattle.ship.specs.Accepted.{Accepted-figures}
+use Rattle.ship.specs.Rules.{outside, layout-refused, type-refused, tests, refusal-of, ice-refused}
+use Rattle.ship.specs.Accepted.{Within, Accepted-figures}
 use Rattle.ship.specs.declared.Refusal.{Refusal}
 use Rattle.ship.specs.declared.Refusal.the-variants.{None, Length}
 use Rattle.ship.specs.declared.Ship.{Ship}
+use Rattle.ship.proofs.Tests.{inside as inside-of}
+use Rattle.ship.proofs.Layouts as alike
 use Rattle.ship.proofs.Order.{first-is, first-one, none}
 use Rattle.ship.specs.Ends.{record-end, Narrower-record}
 use Rattle.ship.proofs.Figured.{figures-accepted}
@@ -246,3 +250,27 @@ ice-added = (refl, refl)
 
 pub ice-above : (ice : ℕ) → ice-refused ice ≡ true ↔ 2 < ice
 ice-above ice = (ltb-true 2 ice, lt-ltb 2 ice)
+
+-- ── General cargo, cranes, common structural rules, layout 2: document 02, Req 03 ───────────
+
+-- 3 accepts layouts 1 and 2; 5 accepts types 1 to 7 in both, and 8 in layout 2 alone.
+pub layouts : (layout : ℕ) → layout-refused layout ≡ false ↔ Within 1 2 layout
+layouts layout = (inside-of 1 2 layout, λ w. rw (le-ltb layout 1 (w .least), le-ltb 2 layout (w .most)))
+
+pub seven-in-both : (layout kind : ℕ) → kind ≤ 7 → type-refused layout kind ≡ outside 1 8 kind
+seven-in-both = alike.seven-in-both
+
+pub eight-in-2 : (layout : ℕ) → type-refused layout 8 ≡ false ↔ layout ≡ 2
+eight-in-2 layout = (λ e. eqb-true layout 2 (not-false (eqb layout 2) e), λ e. rw (eq-eqb layout 2 e))
+
+-- Without a lightweight f_i is 1, and without cranes f_l is.
+pub no-lightweight : (kind : Kind) (dwt : Deadweight) → 0 < dwt .tonnes → Enclosed (f-i kind dwt 0) (1 // 1) (1 // 1)
+no-lightweight = f-i-none
+
+pub no-cranes : (s : Particulars) → 0 < s .deadweight .tonnes → s .cranes ≡ [] → Enclosed (f-l (s .kind) s) (1 // 1) (1 // 1)
+no-cranes s = f-l-none (s .kind) s
+
+-- A ship of types 1 to 7 with none of what layout 2 adds has the same answer in both layouts, a refusal too.
+pub same-in-both : (s : Ship) → s .particulars .kind ≤ 7 → s .particulars .build ≡ no-build → answer-of (in-layout 1 s) ≡ answer-of (in-layout 2 s)
+unfolding answer-of
+same-in-both s h e = ap₂ (λ r f. if (eqb (number-of r) 0) (Bounds (index-of f)) (Refused r)) (alike.refused-alike s h e) (alike.figures-alike s)

@@ -1,7 +1,7 @@
 -- How near two numbers are, in millionths of a millionth, through products and roundings. Assumes nothing.
 use mathlib.Core.Path.{_≡_}
 use Prim.Native.Nat.{ℕ, _+_, _*_, _≤_, _<_, min, max}
-use native.Mathlib.Nat.{mul-le-mul, mul-le-mul-left, mul-le-mul-right, le-of-mul-le-mul-right, mul-pos, le-of-lt, lt-of-not-le}
+use native.Mathlib.Nat.{mul-le-mul-left, mul-le-mul-right, le-of-mul-le-mul-right, mul-pos, le-of-lt, lt-of-not-le}
 use native.Mathlib.Decide.{decLe}
 use native.Mathlib.Omega.{arith}
 use lib.Dec.{lit<}
@@ -21,15 +21,14 @@ gap-trans {j} {k} {a} {b} {c} e small h g =
     let y : a * (j * k) ≤ a * (e * 1000000000000) = mul-le-mul-left a small in
     record { gap = le-of-mul-le-mul-right {k = 1000000000000} (omega (arith, g .gap)) (lit< tt) }
 
--- Of two products; e is for the product of the two gaps.
-pub gap-product : {j k a a' b b' : ℕ} (e : ℕ) → j * k ≤ e * 1000000000000 → Gap j a a' → Gap k b b' → Gap (j + k + e) (a * b) (a' * b')
-gap-product {j} {k} {a} {a'} {b} {b'} e small h g =
-    let x : a' * 1000000000000 * (b' * 1000000000000) ≤ a * (1000000000000 + j) * (b * (1000000000000 + k)) = mul-le-mul (h .gap) (g .gap) in
-    let y : a * b * (j * k) ≤ a * b * (e * 1000000000000) = mul-le-mul-left (a * b) small in
-    record { gap = le-of-mul-le-mul-right {k = 1000000000000} (omega arith) (lit< tt) }
-
 pub gap-times : {k a b : ℕ} (n : ℕ) → Gap k a b → Gap k (n * a) (n * b)
 gap-times n h = record { gap = omega (arith, mul-le-mul-left n (h .gap)) }
+
+-- Of two products: the one factor's gap after the other's.
+pub gap-product : {j k a a' b b' : ℕ} (e : ℕ) → j * k ≤ e * 1000000000000 → Gap j a a' → Gap k b b' → Gap (j + k + e) (a * b) (a' * b')
+gap-product {j} {a = a} {a'} {b} e small h g =
+    let first : Gap j (a * b) (a' * b) = record { gap = omega (arith, mul-le-mul-right b (h .gap)) } in
+    gap-trans e small first (gap-times a' g)
 
 -- Of x over w' rounded down and x' over w rounded up, but for the two roundings.
 pub gap-rounded : {k x x' w w' q r : ℕ} → 0 < w → 0 < w' → Gap k (x * w) (x' * w') → Floor x w' q → Ceil x' w r

@@ -2,57 +2,36 @@
 -- Assumes nothing.
 use mathlib.Core.Path.{_≡_, ap}
 use Prim.Native.Nat.{ℕ, _+_, _*_, _/_, _%_, _^_, _≤_, _<_}
-use native.Mathlib.Nat.{mul-le-mul, mul-le-mul-right, le-refl, le-trans}
+use native.Mathlib.Nat.{mul-le-mul, mul-le-mul-right, le-refl, le-trans, div-add-mod'}
 use native.Mathlib.Omega.{arith}
 use lib.Dec.{lit<}
-use Rattle.number.specs.Division.{Floor, Ceil, ceil-of}
+use Rattle.number.specs.Division.{Divided, Floor, Ceil}
 use Rattle.number.specs.Product.{scaled-down, scaled-up}
-use Rattle.number.proofs.Divisions.{floor-is, ceil-is, floor-named, ceil-named, floor-greatest, floor-ceil, ceil-order}
+use Rattle.number.proofs.Divisions.{floor-is, ceil-is, floor-greatest, floor-ceil, ceil-order}
 use Rattle.number.proofs.Gaps.{Gap, gap-cut}
 
 -- ── Digits ──────────────────────────────────────────────────────────────────────────────────
 
--- n = t 2^30 + s and p = h 2^30 + l.
-module _ (t s h l n p : ℕ) (e : t * 2 ^ 30 + s ≡ n) (f : h * 2 ^ 30 + l ≡ p) where
-  multiplied : n * p ≡ (n * h + t * l) * 2 ^ 30 + s * l
-  multiplied =
-      let a : n * (h * 2 ^ 30 + l) ≡ n * p = ap (λ (z : ℕ). n * z) f in
-      let b : (t * 2 ^ 30 + s) * l ≡ n * l = ap (λ (z : ℕ). z * l) e in
-      omega arith
-
-  down : {q : ℕ} → Floor (s * l) (2 ^ 30) q → Floor (n * p) (2 ^ 30) (n * h + t * l + q)
-  down d =
-      let x = multiplied in
-      record { at-most = omega (arith, d .at-most); next-above = omega (arith, d .next-above) }
-
-  up : {q : ℕ} → Ceil (s * l) (2 ^ 30) q → Ceil (n * p) (2 ^ 30) (n * h + t * l + q)
-  up d =
-      let x = multiplied in
-      record { at-least = omega (arith, d .at-least); previous-below = omega (arith, d .previous-below) }
-
-  high-fits : n * p < 2 ^ 93 → n * h + t * l < 2 ^ 63
-  high-fits small =
-      let x = multiplied in
-      omega arith
-
-digits : (n : ℕ) → n / 2 ^ 30 * 2 ^ 30 + n % 2 ^ 30 ≡ n
-digits n = omega arith
+-- n = t 2^30 + s and p = h 2^30 + l, multiplied out.
+multiplied : (t s h l n p : ℕ) → t * 2 ^ 30 + s ≡ n → h * 2 ^ 30 + l ≡ p → (n * h + t * l) * 2 ^ 30 + s * l ≡ n * p
+multiplied t s h l n p e f =
+    let a : n * (h * 2 ^ 30 + l) ≡ n * p = ap (λ (z : ℕ). n * z) f in
+    let b : (t * 2 ^ 30 + s) * l ≡ n * l = ap (λ (z : ℕ). z * l) e in
+    omega arith
 
 module _ (n p : ℕ) where
-  pub down-by-digits : n * (p / 2 ^ 30) + n / 2 ^ 30 * (p % 2 ^ 30) + n % 2 ^ 30 * (p % 2 ^ 30) / 2 ^ 30 ≡ scaled-down n p
-  unfolding scaled-down
-  down-by-digits = floor-named (lit< tt) (down _ _ _ _ n p (digits n) (digits p) (floor-is _ _ (lit< tt)))
+  by-digits : (n * (p / 2 ^ 30) + n / 2 ^ 30 * (p % 2 ^ 30)) * 2 ^ 30 + n % 2 ^ 30 * (p % 2 ^ 30) ≡ n * p
+  by-digits = multiplied _ _ _ _ n p (div-add-mod' n (2 ^ 30)) (div-add-mod' p (2 ^ 30))
 
-  pub up-by-digits : n * (p / 2 ^ 30) + n / 2 ^ 30 * (p % 2 ^ 30) + ceil-of (n % 2 ^ 30 * (p % 2 ^ 30)) (2 ^ 30) ≡ scaled-up n p
-  unfolding scaled-up
-  up-by-digits = ceil-named (lit< tt) (up _ _ _ _ n p (digits n) (digits p) (ceil-is _ _ (lit< tt)))
+  pub product-divided : Divided (n * p) (2 ^ 30) (n * (p / 2 ^ 30) + n / 2 ^ 30 * (p % 2 ^ 30) + n % 2 ^ 30 * (p % 2 ^ 30) / 2 ^ 30) (n % 2 ^ 30 * (p % 2 ^ 30) % 2 ^ 30)
+  product-divided = record { whole = omega (arith, by-digits); rest = omega arith }
 
   -- What fits 64 bits.
-  pub digits-fit : n * p < 2 ^ 93 → (n * (p / 2 ^ 30) + n / 2 ^ 30 * (p % 2 ^ 30) < 2 ^ 63) × (n % 2 ^ 30 * (p % 2 ^ 30) ≤ 2 ^ 60)
-  digits-fit small =
+  pub product-fits : n * p < 2 ^ 93 → (n * (p / 2 ^ 30) + n / 2 ^ 30 * (p % 2 ^ 30) < 2 ^ 63) × (n % 2 ^ 30 * (p % 2 ^ 30) ≤ 2 ^ 60)
+  product-fits small =
       let x : n % 2 ^ 30 ≤ 2 ^ 30 = omega arith in
       let y : p % 2 ^ 30 ≤ 2 ^ 30 = omega arith in
-      (high-fits _ _ _ _ n p (digits n) (digits p) small, mul-le-mul x y)
+      (omega (arith, by-digits), mul-le-mul x y)
 
 -- ── Roundings ───────────────────────────────────────────────────────────────────────────────
 

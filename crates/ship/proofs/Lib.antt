@@ -8,3 +8,4 @@ pub mod Typed
 pub mod Vectors
 pub mod Ends
 pub mod Narrowing
+pub mod Layouts

@@ -1,5 +1,6 @@
 -- Entries that are not used, and what stands where layout 2 adds nothing.
 -- Assumes nothing.
+use Prim.Native.Nat.{ℕ}
 use mathlib.Core.Path.{_≡_}
 use mathlib.Core.List.{[], _∷_}
 use lib.ListN.{length}
@@ -27,3 +28,28 @@ no-build =
 pub record Entries (s : Ship) : Type 0 where
   pub engines : length (s .engines) ≡ 4
   pub gear : length (s .particulars .build .gear) ≡ 8
+
+-- The same record in another layout.
+abbrev pub in-layout : ℕ → Ship → Ship
+in-layout layout s =
+    let p = s .particulars in
+    record {
+      particulars = record {
+        imo = p .imo;
+        kind = p .kind;
+        deadweight = p .deadweight;
+        gross = p .gross;
+        cargo = p .cargo;
+        method = p .method;
+        trial = p .trial;
+        supply = p .supply;
+        table = p .table;
+        ice = p .ice;
+        used = p .used;
+        layout = layout;
+        build = p .build;
+      };
+      speed = s .speed;
+      auxiliary = s .auxiliary;
+      engines = s .engines;
+    }
