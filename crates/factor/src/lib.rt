@@ -60,10 +60,10 @@ fn lifted(used: u64, gear: [Crane; 8]) -> u64
     let mut i: usize = 0;
     while i < n {
         let c = gear[i];
-        sum += 519 * (c.swl * c.reach) + 32110000;
+        sum += 519 * (c.swl * c.reach);
         i += 1;
     }
-    sum
+    sum + 32110000 * used
 }
 
 // A general cargo ship's f_l: Capacity and what her cranes count for, over Capacity.

@@ -1,6 +1,6 @@
--- `factor::lifted` meets its contract: after i cranes the sum is that of the first i.
+-- `factor::lifted` meets its contract: after i cranes the sum is that of the first i, but for 32.11 t each.
 -- Assumes nothing.
-use Prim.Native.Nat.{_*_, _-_, _≤_}
+use Prim.Native.Nat.{_+_, _*_, _-_, _≤_}
 use mathlib.Core.Path.{_≡_, sym}
 use native.Mathlib.Nat.{mul-le-mul}
 use native.Mathlib.Omega.{arith}
@@ -15,13 +15,13 @@ use Rattle.factor.proofs.lifted.Statement.{statement}
 use Rattle.factor.proofs.lifted.Tie as tie
 
 abbrev Inv-loop : tie.InvT-loop
-Inv-loop used gear n sum₀ i₀ sum i = (i ≤ used) × (used ≤ 8) × (sum ≤ i * 51932110000) × (sum ≡ lifted-of (cranes-of i gear))
+Inv-loop used gear n sum₀ i₀ sum i = (i ≤ used) × (used ≤ 8) × (sum ≤ i * 51900000000) × (sum + 32110000 * i ≡ lifted-of (cranes-of i gear))
 
 abbrev μ-loop : tie.MeasureT-loop
 μ-loop used gear n sum₀ i₀ sum i = used - i
 
 loop-holds : tie.Need-loop-holds Inv-loop μ-loop
-loop-holds c = (omega arith, omega arith, omega arith, sym (lifted-none (c .args .t2)))
+loop-holds c = (omega arith, omega arith, omega arith, omega (arith, lifted-none (c .args .t2)))
 
 -- What rule 18 leaves of the crane that comes next: the product of its two figures.
 reached : (c : tie.In-loop Inv-loop μ-loop) → let e = getD (c .before .before .args .t2) (c .before .loop .i) no-crane in e .swl * e .reach ≤ 100000000
@@ -49,5 +49,4 @@ lifted-spec =
     (λ c. omega (arith, reached (c .before .before)))
     (λ c. omega (arith, reached (c .before .before)))
     (λ c. omega (arith, reached (c .before .before)))
-    (λ c. omega (arith, reached (c .before .before)))
-    (λ c. omega arith) (λ c. omega arith) loop-again returns)
+    (λ c. omega arith) (λ c. omega arith) loop-again (λ c. omega arith) (λ c. omega arith) returns)

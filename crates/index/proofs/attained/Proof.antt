@@ -7,6 +7,7 @@ use borrow.Author.Needs.{needs}
 use Rattle.ship.proofs.Typed.{four}
 use Rattle.ship.specs.Figures.{figures}
 use Rattle.ship.proofs.Right.{numbers-accepted}
+use Rattle.correction.specs.Correction.{Fast}
 use Rattle.index.specs.Attained.{Sized, speeds-of, index-of}
 use Rattle.index.proofs.Records.{own-speed, own-hull, main-small, lower-sized, upper-sized, lower-named, upper-named}
 use Rattle.index.proofs.attained.Statement.{statement}
@@ -20,7 +21,8 @@ main-engines-requires c κs =
     let t = s .args .s in
     let length = four t _ (s .good .0) in
     let n = e .emissions .ensures in
-    ((numbers-accepted t (s .pre .0) .kind, rw (s .pre .1) (own-speed t length (s .pre .0)), own-hull t length (s .pre .0)), (rw n (main-small t length (s .pre .0) false), rw n (main-small t length (s .pre .0) true)))
+    let v : Fast (s .args .v .most) = rw (s .pre .1) (own-speed t length (s .pre .0)) in
+    ((numbers-accepted t (s .pre .0) .kind, v, own-hull t length (s .pre .0)), (rw n (main-small t length (s .pre .0) false), rw n (main-small t length (s .pre .0) true)))
 
 -- What the two roundings ask.
 lower-asked : (c : tie.After-main-engines) → let e = c .before .before .before in let f = e .before .before .before .before in

@@ -1,8 +1,8 @@
 -- `plant::allowance` meets its contract.
 -- Assumes nothing.
 use Prim.Native.Nat.{ℕ, _*_}
-use mathlib.Core.Path.{_≡_, refl, _∙_}
-use mathlib.Core.Bool.{_||_}
+use mathlib.Core.Path.{_≡_, refl, sym, ap, _∙_}
+use mathlib.Core.Bool.{Bool, _||_}
 use native.Mathlib.Omega.{arith}
 use borrow.Author.Needs.{needs}
 use lib.Dec.{eqb}
@@ -27,10 +27,10 @@ mul-result : tie.Need-mul-result
 mul-result c = search needs
 
 returns : tie.Need-returns
-returns c = (rw (by-type (c .before .args .lightweight) (c .before .args .kind) (c .before .pre .0), c .if1 .taken), search needs)
+returns c = let n = c .before .args .lightweight in (sym (by-type n _ (c .before .pre .0) ∙ ap (λ (t : Bool). if t (8 * n) 0) (c .if1 .taken)), search needs)
 
 returns-2 : tie.Need-returns-2
-returns-2 c = (rw (by-type (c .before .args .lightweight) (c .before .args .kind) (c .before .pre .0), c .if1 .left), search needs)
+returns-2 c = let n = c .before .args .lightweight in (sym (by-type n _ (c .before .pre .0) ∙ ap (λ (t : Bool). if t (8 * n) 0) (c .if1 .left)), search needs)
 
 pub allowance-spec : {M : Type 1} → statement M
 allowance-spec = tie.close (tie.spec mul-result returns returns-2)
