@@ -14,7 +14,7 @@ use Rattle.fields.specs.Runs.{pack, total, numbers-at, numbers-of, packed}
 use Rattle.fields.specs.Checks.{sums}
 use Rattle.fields.proofs.Checks.{sums-below}
 use Rattle.fields.proofs.Runs.{Fit, none, _&_, unpack, repack}
-use Rattle.ship.specs.Record.{no-engine, no-crane, Entries}
+use Rattle.ship.specs.Record.{no-engine, no-crane, Entries, with-build}
 use Rattle.ship.specs.Refusals.{first-of}
 use Rattle.ship.specs.Rules.{nonzero, tests, refusal-of}
 use Rattle.ship.specs.declared.Engine.{Engine}
@@ -25,7 +25,8 @@ use Rattle.ship.specs.declared.Refusal.the-variants.{None, Length, Check}
 use Rattle.ship.proofs.Order.{next-test}
 use Rattle.ship.proofs.Tests.{neither, is-zero}
 use Rattle.ship.proofs.Right.{numbers-accepted, own-refusal, all-passed as passed-rows}
-use Rattle.layout.specs.Layout.{head, entry, entries, cranes, added, newer, fields, widths, body, encode, numbers-in, build-from, ship-from, ship-in}
+use Rattle.build_fields.specs.Fields.{front, cranes, sizes, added, newer, build-from}
+use Rattle.layout.specs.Layout.{head, entry, entries, fields, widths, body, encode, numbers-in, ship-from, ship-in}
 use Rattle.block.specs.Answers.{length-refused, check-refused, zeros-refused, block-tests, read-refusal, loaded, read-of}
 use Rattle.layout.proofs.Codec.{encode-length, take-body, drop-body}
 use Rattle.layout.proofs.Fitting.{fits}
@@ -43,26 +44,11 @@ listed idle es i (suc n) h = ap (λ (l : List _). getD es i idle ∷ l) (listed 
 
 -- Particulars with other crane entries.
 abbrev with-gear : Particulars → List Crane → Particulars
-with-gear p gear =
-    record {
-      imo = p .imo;
-      kind = p .kind;
-      deadweight = p .deadweight;
-      gross = p .gross;
-      cargo = p .cargo;
-      method = p .method;
-      trial = p .trial;
-      supply = p .supply;
-      table = p .table;
-      ice = p .ice;
-      used = p .used;
-      layout = p .layout;
-      build = record { lightweight = p .build .lightweight; hull = p .build .hull; cranes = p .build .cranes; gear = gear };
-    }
+with-gear p gear = with-build (p .layout) (record { lightweight = p .build .lightweight; hull = p .build .hull; cranes = p .build .cranes; gear = gear }) p
 
 -- Each number of the table goes to its place in the record.
 from-table : (s : Ship) → Entries s → ship-from (numbers-of (fields s)) ≡ s
-unfolding ship-from build-from fields head entries entry cranes added newer
+unfolding ship-from build-from fields head entries entry front cranes sizes added newer
 from-table s h =
     λ i. record {
       particulars = with-gear (s .particulars) (listed no-crane (s .particulars .build .gear) 0 8 (h .gear) i);
@@ -73,7 +59,7 @@ from-table s h =
 
 module _ (s : Ship) (whole : Entries s) (own : refusal-of s ≡ None) where
   numbers-back : numbers-in (encode s) ≡ numbers-of (fields s)
-  unfolding numbers-in encode body widths fields head entries entry cranes added newer
+  unfolding numbers-in encode body widths fields head entries entry front cranes sizes added newer
   numbers-back =
       let q = packed ((2, sums 1 0 (body s) .a) ∷ (2, sums 1 0 (body s) .b) ∷ []) in
       unpack (encode s) q 0 (fits s (numbers-accepted s own)) refl
@@ -95,7 +81,7 @@ module _ (s : Ship) (whole : Entries s) (own : refusal-of s ≡ None) where
 
   -- The fields that the record has no say in.
   zeros-hold : zeros-refused (encode s) ≡ false
-  unfolding zeros-refused fields head entries entry cranes added newer
+  unfolding zeros-refused fields head entries entry front cranes sizes added newer
   zeros-hold = rw numbers-back
 
   no-refusal : read-refusal (encode s) ≡ None
@@ -145,7 +131,7 @@ sealed b e =
 
 -- The table of the record that stands in a block has the block's numbers.
 to-table : (b : List ℕ) → Sealed b → numbers-of (fields (ship-in b)) ≡ numbers-in b
-unfolding ship-in ship-from build-from numbers-in numbers-at widths fields head entries entry cranes added newer zeros-refused
+unfolding ship-in ship-from build-from numbers-in numbers-at widths fields head entries entry front cranes sizes added newer zeros-refused
 to-table b h =
     let z7 = neither _ (nonzero (number-at b 141 3) || nonzero (number-at b 188 320)) (h .zeros) in
     let z6 = neither (nonzero (number-at b 141 3)) (nonzero (number-at b 188 320)) (z7 .1) in
@@ -165,7 +151,7 @@ to-table b h =
     ))
 
 body-back : (b : List ℕ) → Bytes b → Sealed b → body (ship-in b) ≡ take 508 b
-unfolding body numbers-in widths fields head entries entry cranes added newer total
+unfolding body numbers-in widths fields head entries entry front cranes sizes added newer total
 body-back b h r =
     let n = r .long in
     ap (pack widths) (to-table b r) ∙ repack widths b 0 h (omega arith)

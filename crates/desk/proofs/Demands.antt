@@ -39,7 +39,8 @@ use Rattle.ship.proofs.Narrowing as narrowing-of
 use Rattle.ship.proofs.Ship.{the-type}
 use Rattle.ship.proofs.Typed.{all-entries}
 use Rattle.fields.specs.Numbers.{Bytes}
-use Rattle.layout.specs.Layout.{encode, build-from, ship-from, ship-in}
+use Rattle.build_fields.specs.Fields.{build-from}
+use Rattle.layout.specs.Layout.{encode, ship-from, ship-in}
 use Rattle.block.specs.Answers.{length-refused, block-tests, read-refusal, read-of, loaded, write-refusal, write-of}
 use Rattle.block.proofs.Theorems as block
 use Rattle.propeller.specs.Propeller.{Speed}

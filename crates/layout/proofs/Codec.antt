@@ -13,12 +13,13 @@ use Rattle.fields.specs.declared.Sums.{Sums}
 use Rattle.fields.proofs.Runs.{packed-length}
 use Rattle.fields.proofs.Parts.{next-part}
 use Rattle.ship.specs.declared.Ship.{Ship}
-use Rattle.layout.specs.Layout.{head, entry, entries, cranes, added, newer, fields, body, encode}
+use Rattle.build_fields.specs.Fields.{front, cranes, sizes, added, newer}
+use Rattle.layout.specs.Layout.{head, entry, entries, fields, body, encode}
 
 -- ── Lengths ─────────────────────────────────────────────────────────────────────────────────
 
 pub body-length : (s : Ship) → length (body s) ≡ 508
-unfolding body fields head entries entry cranes added newer total
+unfolding body fields head entries entry front cranes sizes added newer total
 body-length s = packed-length (fields s)
 
 pub encode-length : (s : Ship) → length (encode s) ≡ 512

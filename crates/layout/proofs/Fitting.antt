@@ -9,14 +9,14 @@ use lib.Dec.{ltb, lit<}
 use lib.ListN.{getD}
 use Rattle.exact.proofs.Rules.{Capacity-between}
 use Rattle.fields.proofs.Runs.{Fit, none, _&_, fit-append}
-use Rattle.ship.specs.Record.{no-engine, no-crane}
+use Rattle.ship.specs.Record.{no-engine}
 use Rattle.ship.specs.Figures.{kind-of, deadweight-of}
 use Rattle.ship.specs.declared.Engine.{Engine}
-use Rattle.ship.specs.declared.Build.{Build}
 use Rattle.ship.specs.declared.Ship.{Ship}
 use Rattle.ship.proofs.Tests.{limit-most}
-use Rattle.ship.proofs.Right.{Built, Entry, Accepted-numbers}
-use Rattle.layout.specs.Layout.{head, entry, entries, crane, cranes, added, newer, fields}
+use Rattle.ship.proofs.Right.{Entry, Accepted-numbers}
+use Rattle.build_fields.proofs.Fitting.{newer-fits}
+use Rattle.layout.specs.Layout.{head, entry, entries, fields}
 
 -- ── An engine entry ─────────────────────────────────────────────────────────────────────────
 
@@ -74,29 +74,6 @@ head-fits s r =
     & omega (arith, u .fuel)
     & lit< tt
     & none
-
--- A crane entry, used or not.
-crane-fits : {kind : ℕ} (b : Build) → Built kind b → (i : ℕ) → i < 8 → Fit (crane (getD (b .gear) i no-crane))
-crane-fits b r i h = go (ltb i (b .cranes)) refl
-  where
-    go : (t : Bool) → ltb i (b .cranes) ≡ t → Fit (crane (getD (b .gear) i no-crane))
-    go true e = let c = r .used i (ltb-true i (b .cranes) e) in omega (arith, c .swl .most) & omega (arith, c .reach .most) & none
-    go false e = rw (r .others i h (ltb-false i (b .cranes) e)) (lit< tt & lit< tt & none)
-
-newer-fits : {kind : ℕ} (b : Build) → Built kind b → Fit (newer b)
-unfolding newer added cranes
-newer-fits b r =
-    let c = crane-fits b r in
-    let s = r .small in
-    omega (arith, r .lightweight)
-    & omega (arith, s .volume)
-    & omega (arith, r .cranes)
-    & lit< tt
-    & fit-append
-    (fit-append
-    (fit-append (c 0 (lit< tt)) (fit-append (c 1 (lit< tt)) (fit-append (c 2 (lit< tt)) (fit-append (c 3 (lit< tt)) (fit-append (c 4 (lit< tt)) (fit-append (c 5 (lit< tt)) (fit-append (c 6 (lit< tt)) (c 7 (lit< tt)))))))))
-    (omega (arith, s .length) & omega (arith, s .breadth) & omega (arith, s .draught) & none))
-    (lit< tt & none)
 
 pub fits : (s : Ship) → Accepted-numbers s → Fit (fields s)
 unfolding fields entries

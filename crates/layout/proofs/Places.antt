@@ -7,7 +7,8 @@ use native.Mathlib.Nat.{add-assoc}
 use Rattle.fields.specs.Numbers.{number-at}
 use Rattle.fields.specs.Runs.{numbers-at, total, widths-of}
 use Rattle.ship.specs.Record.{no-engine}
-use Rattle.layout.specs.Layout.{head, entry, entries, cranes, added, newer, fields, widths}
+use Rattle.build_fields.specs.Fields.{front, cranes, sizes, added, newer}
+use Rattle.layout.specs.Layout.{head, entry, entries, fields, widths}
 
 abbrev starts : ℕ → List ℕ → List ℕ
 starts at [] = []
@@ -23,11 +24,11 @@ pub places : starts 0 widths
     ∷ 144 ∷ 146 ∷ 148 ∷ 150 ∷ 152 ∷ 154 ∷ 156 ∷ 158 ∷ 160 ∷ 162 ∷ 164 ∷ 166 ∷ 168 ∷ 170 ∷ 172 ∷ 174
     ∷ 176 ∷ 180 ∷ 184 ∷ 188
     ∷ []
-unfolding widths fields head entries entry cranes added newer
+unfolding widths fields head entries entry front cranes sizes added newer
 places = refl
 
 pub to-508 : total widths ≡ 508
-unfolding widths fields head entries entry cranes added newer total
+unfolding widths fields head entries entry front cranes sizes added newer total
 to-508 = refl
 
 -- And an entry's, wherever it stands.

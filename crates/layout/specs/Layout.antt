@@ -5,12 +5,11 @@ use mathlib.Core.List.{List, [], _∷_, _++_}
 use lib.ListN.{getD, drop}
 use Rattle.fields.specs.Runs.{numbers-at, widths-of, packed}
 use Rattle.fields.specs.Checks.{sums}
-use Rattle.ship.specs.Record.{no-engine, no-crane}
+use Rattle.ship.specs.Record.{no-engine}
+use Rattle.build_fields.specs.Fields.{newer, build-from}
 use Rattle.ship.specs.declared.Range.{Range}
 use Rattle.ship.specs.declared.Consumption.{Consumption}
 use Rattle.ship.specs.declared.Engine.{Engine}
-use Rattle.ship.specs.declared.Crane.{Crane}
-use Rattle.ship.specs.declared.Build.{Build}
 use Rattle.ship.specs.declared.Particulars.{Particulars}
 use Rattle.ship.specs.declared.Ship.{Ship}
 
@@ -59,33 +58,6 @@ entry e =
 unfoldable pub entries : List Engine → List (ℕ × ℕ)
 entries es = entry (getD es 0 no-engine) ++ (entry (getD es 1 no-engine) ++ (entry (getD es 2 no-engine) ++ entry (getD es 3 no-engine)))
 
--- A crane entry of 4 bytes.
-abbrev pub crane : Crane → List (ℕ × ℕ)
-crane c = (2, c .swl) ∷ (2, c .reach) ∷ []
-
--- Bytes 144–175, the eight crane entries.
-unfoldable pub cranes : List Crane → List (ℕ × ℕ)
-cranes cs =
-    let at : ℕ → List (ℕ × ℕ) = λ i. crane (getD cs i no-crane) in
-    at 0 ++ (at 1 ++ (at 2 ++ (at 3 ++ (at 4 ++ (at 5 ++ (at 6 ++ at 7))))))
-
--- Bytes 132–187, what layout 2 adds; in layout 1 all of it is 0 (rule 16).
-unfoldable pub added : Build → List (ℕ × ℕ)
-added b =
-    (4, b .lightweight)  -- 132–135
-    ∷ (4, b .hull .volume)  -- 136–139
-    ∷ (1, b .cranes)  -- 140
-    ∷ (3, 0)  -- 141–143 zero
-    ∷ cranes (b .gear)
-    ++ ((4, b .hull .length)  -- 176–179
-    ∷ (4, b .hull .breadth)  -- 180–183
-    ∷ (4, b .hull .draught)  -- 184–187
-    ∷ [])
-
--- Bytes 132–507: later requests put their fields behind those of layout 2.
-unfoldable pub newer : Build → List (ℕ × ℕ)
-newer b = added b ++ ((320, 0) ∷ [])  -- 188–507 zero
-
 -- Bytes 0–507.
 unfoldable pub fields : Ship → List (ℕ × ℕ)
 fields s = head s ++ (entries (s .engines) ++ newer (s .particulars .build))
@@ -103,23 +75,6 @@ engine-from ns = record { mcr = range-at ns 0 1; limit = getD ns 2 0; uses = use
 
 abbrev pub engines-from : List ℕ → List Engine
 engines-from ns = engine-from (drop 20 ns) ∷ engine-from (drop 28 ns) ∷ engine-from (drop 36 ns) ∷ engine-from (drop 44 ns) ∷ []
-
-abbrev pub crane-from : List ℕ → Crane
-crane-from ns = record { swl = getD ns 0 0; reach = getD ns 1 0 }
-
-abbrev pub gear-from : List ℕ → List Crane
-gear-from ns =
-    let at : ℕ → Crane = λ i. crane-from (drop i ns) in
-    at 0 ∷ at 2 ∷ at 4 ∷ at 6 ∷ at 8 ∷ at 10 ∷ at 12 ∷ at 14 ∷ []
-
-unfoldable pub build-from : List ℕ → Build
-build-from ns =
-    record {
-      lightweight = getD ns 0 0;
-      hull = record { volume = getD ns 1 0; length = getD ns 20 0; breadth = getD ns 21 0; draught = getD ns 22 0 };
-      cranes = getD ns 2 0;
-      gear = gear-from (drop 4 ns);
-    }
 
 abbrev pub particulars-from : List ℕ → Particulars
 particulars-from ns =

@@ -1,17 +1,16 @@
 // Where each field of a record stands in a block of 512 bytes: read, and written run by run, each over its part, then the checks.
 // Whoever reads or writes a block here has seen that it has 512 bytes.
+use build_fields::build_in;
+use build_fields::nothing_added;
+use build_fields::write_newer;
 use fields::Sums;
-use fields::all_zero;
 use fields::check_sums;
 use fields::number_at;
 use fields::put_run;
-use ship::Build;
 use ship::Consumption;
-use ship::Crane;
 use ship::Deadweight;
 use ship::Engine;
 use ship::GrossTonnage;
-use ship::Hull;
 use ship::Particulars;
 use ship::Range;
 use ship::Ship;
@@ -21,28 +20,8 @@ ghost use mathlib.Core.List.{[], _∷_};
 ghost use Prim.Native.Nat.{_+_, _≤_};
 ghost use lib.ListN.{length};
 ghost use Rattle.fields.specs.Runs.{numbers-at, widths-of, packed};
-ghost use Rattle.ship.specs.Record.{no-engine, no-crane, no-build};
-ghost use Rattle.layout.specs.Layout.{head, entry, entries, crane, cranes, added, newer, body, encode, numbers-in};
-ghost use Rattle.layout.specs.Layout.{uses-at, engine-from, crane-from, gear-from, build-from, particulars-from, empty-ship, ship-in};
-
-// Nothing of what layout 2 adds.
-fn nothing_added() -> Build
-    ensures { λ r. ⌜ r ≡ no-build ⌝ }
-{
-    let hull = Hull {
-        volume: 0,
-        length: 0,
-        breadth: 0,
-        draught: 0,
-    };
-    let none = Crane { swl: 0, reach: 0 };
-    Build {
-        lightweight: 0,
-        hull,
-        cranes: 0,
-        gear: [none, none, none, none, none, none, none, none],
-    }
-}
+ghost use Rattle.ship.specs.Record.{no-engine};
+ghost use Rattle.layout.specs.Layout.{head, entry, entries, body, encode, numbers-in, uses-at, engine-from, particulars-from, empty-ship, ship-in};
 
 // The record that stands where there is none.
 pub fn empty() -> Ship
@@ -106,56 +85,6 @@ fn engine_at(block: &[u8], at: usize) -> Engine
         source: number_at(block, at + 17, 1),
     };
     Engine { mcr, limit, uses }
-}
-
-// The crane of the entry of 4 bytes that starts at `at`.
-fn crane_at(block: &[u8], at: usize) -> Crane
-    requires { ⌜ at + 4 ≤ length (now block) ⌝ }
-    ensures { λ r. ⌜ r ≡ crane-from (numbers-at (now (block .entry)) at (widths-of (crane no-crane))) ⌝ }
-{
-    Crane {
-        swl: number_at(block, at, 2),
-        reach: number_at(block, at + 2, 2),
-    }
-}
-
-fn gear_in(block: &[u8]) -> [Crane; 8]
-    requires { ⌜ length (now block) ≡ 512 ⌝ }
-    ensures { λ r. ⌜ r ≡ gear-from (numbers-at (now (block .entry)) 144 (widths-of (cranes (no-build .gear)))) ⌝ }
-{
-    [
-        crane_at(block, 144),
-        crane_at(block, 148),
-        crane_at(block, 152),
-        crane_at(block, 156),
-        crane_at(block, 160),
-        crane_at(block, 164),
-        crane_at(block, 168),
-        crane_at(block, 172),
-    ]
-}
-
-// What layout 2 adds. Most blocks have none of it, and one look at the bytes tells.
-fn build_in(block: &[u8]) -> Build
-    requires { ⌜ length (now block) ≡ 512 ⌝ }
-    ensures { λ r. ⌜ r ≡ build-from (numbers-at (now (block .entry)) 132 (widths-of (added no-build))) ⌝ }
-{
-    if all_zero(&block[132..188]) {
-        return nothing_added();
-    }
-    let gear = gear_in(block);
-    let hull = Hull {
-        volume: number_at(block, 136, 4),
-        length: number_at(block, 176, 4),
-        breadth: number_at(block, 180, 4),
-        draught: number_at(block, 184, 4),
-    };
-    Build {
-        lightweight: number_at(block, 132, 4),
-        hull,
-        cranes: number_at(block, 140, 1),
-        gear,
-    }
 }
 
 fn particulars_in(block: &[u8]) -> Particulars
@@ -230,37 +159,10 @@ pub fn ship_in(block: &[u8]) -> Ship
     }
 }
 
-// The widths of the fields in bytes 0 to 51, in an engine entry, in bytes 132 to 507, and of the checks.
+// The widths of the fields in bytes 0 to 51, in an engine entry, and of the checks.
 const HEAD: [usize; 20] = [2, 1, 1, 4, 4, 4, 4, 4, 4, 4, 4, 1, 1, 1, 1, 4, 2, 2, 1, 3];
 
 const ENTRY: [usize; 8] = [4, 4, 4, 2, 2, 1, 1, 2];
-
-const NEWER: [usize; 24] = [
-    4,
-    4,
-    1,
-    3,
-    2,
-    2,
-    2,
-    2,
-    2,
-    2,
-    2,
-    2,
-    2,
-    2,
-    2,
-    2,
-    2,
-    2,
-    2,
-    2,
-    4,
-    4,
-    4,
-    320,
-];
 
 const CHECKS: [usize; 2] = [2, 2];
 
@@ -325,49 +227,6 @@ fn write_entries(part: &mut [u8], es: [Engine; 4])
     write_entry(&mut part[20..40], b);
     write_entry(&mut part[40..60], c);
     write_entry(&mut part[60..80], d);
-}
-
-fn write_newer(part: &mut [u8], b: Build)
-    requires { ⌜ length (now part) ≡ 376 ⌝ }
-    ensures { λ r. ⌜ now (part .exit) ≡ packed (newer b) ⌝ }
-{
-    let widths = NEWER;
-    let gear = b.gear;
-    let c0 = gear[0];
-    let c1 = gear[1];
-    let c2 = gear[2];
-    let c3 = gear[3];
-    let c4 = gear[4];
-    let c5 = gear[5];
-    let c6 = gear[6];
-    let c7 = gear[7];
-    let numbers = [
-        b.lightweight,
-        b.hull.volume,
-        b.cranes,
-        0,
-        c0.swl,
-        c0.reach,
-        c1.swl,
-        c1.reach,
-        c2.swl,
-        c2.reach,
-        c3.swl,
-        c3.reach,
-        c4.swl,
-        c4.reach,
-        c5.swl,
-        c5.reach,
-        c6.swl,
-        c6.reach,
-        c7.swl,
-        c7.reach,
-        b.hull.length,
-        b.hull.breadth,
-        b.hull.draught,
-        0,
-    ];
-    put_run(part, &widths, &numbers);
 }
 
 fn write_body(part: &mut [u8], s: Ship)

@@ -7,6 +7,7 @@ use lib.ListN.{length}
 use Rattle.ship.specs.declared.Engine.{Engine}
 use Rattle.ship.specs.declared.Crane.{Crane}
 use Rattle.ship.specs.declared.Build.{Build}
+use Rattle.ship.specs.declared.Particulars.{Particulars}
 use Rattle.ship.specs.declared.Ship.{Ship}
 
 abbrev pub no-engine : Engine
@@ -29,26 +30,30 @@ pub record Entries (s : Ship) : Type 0 where
   pub engines : length (s .engines) ≡ 4
   pub gear : length (s .particulars .build .gear) ≡ 8
 
+-- Particulars with another layout and build.
+abbrev pub with-build : ℕ → Build → Particulars → Particulars
+with-build layout build p =
+    record {
+      imo = p .imo;
+      kind = p .kind;
+      deadweight = p .deadweight;
+      gross = p .gross;
+      cargo = p .cargo;
+      method = p .method;
+      trial = p .trial;
+      supply = p .supply;
+      table = p .table;
+      ice = p .ice;
+      used = p .used;
+      layout = layout;
+      build = build;
+    }
+
 -- The same record in another layout.
 abbrev pub in-layout : ℕ → Ship → Ship
 in-layout layout s =
-    let p = s .particulars in
     record {
-      particulars = record {
-        imo = p .imo;
-        kind = p .kind;
-        deadweight = p .deadweight;
-        gross = p .gross;
-        cargo = p .cargo;
-        method = p .method;
-        trial = p .trial;
-        supply = p .supply;
-        table = p .table;
-        ice = p .ice;
-        used = p .used;
-        layout = layout;
-        build = p .build;
-      };
+      particulars = with-build layout (s .particulars .build) (s .particulars);
       speed = s .speed;
       auxiliary = s .auxiliary;
       engines = s .engines;

@@ -1,7 +1,8 @@
 -- `layout::empty` meets its contract.
 -- Assumes nothing.
 use borrow.Author.Needs.{needs}
-use Rattle.layout.specs.Layout.{build-from, ship-from}
+use Rattle.build_fields.specs.Fields.{build-from}
+use Rattle.layout.specs.Layout.{ship-from}
 use Rattle.layout.proofs.empty.Statement.{statement}
 use Rattle.layout.proofs.empty.Tie as tie
 

@@ -1,13 +1,14 @@
 -- `layout::particulars_in` meets its contract.
 -- Assumes nothing.
 use Rattle.fields.specs.Runs.{numbers-at}
-use Rattle.layout.specs.Layout.{head, entry, entries, cranes, added, newer, fields, widths, numbers-in, build-from}
+use Rattle.build_fields.specs.Fields.{front, cranes, sizes, added, newer, build-from}
+use Rattle.layout.specs.Layout.{head, entry, entries, fields, widths, numbers-in}
 use borrow.Author.Needs.{needs}
 use Rattle.layout.proofs.particulars_in.Statement.{statement}
 use Rattle.layout.proofs.particulars_in.Tie as tie
 
 returns : tie.Need-returns
-unfolding numbers-in numbers-at widths fields head entries entry build-from cranes added newer
+unfolding numbers-in numbers-at widths fields head entries entry build-from front cranes sizes added newer
 returns c =
     let c12 = c .before .before in
     let c9 = c12 .before .before .before in

@@ -4,13 +4,14 @@ use mathlib.Core.Path.{refl}
 use mathlib.Core.List.{[], _++_}
 use Rattle.fields.specs.Runs.{pack, total}
 use Rattle.fields.proofs.Runs.{then-run, run-written}
-use Rattle.layout.specs.Layout.{head, entry, entries, cranes, added, newer, fields, body}
+use Rattle.build_fields.specs.Fields.{front, cranes, sizes, added, newer}
+use Rattle.layout.specs.Layout.{head, entry, entries, fields, body}
 use borrow.Author.Needs.{needs}
 use Rattle.layout.proofs.write_body.Statement.{statement}
 use Rattle.layout.proofs.write_body.Tie as tie
 
 returns : tie.Need-returns
-unfolding body fields head entries entry cranes added newer total pack
+unfolding body fields head entries entry front cranes sizes added newer total pack
 returns c =
     let c-newer = c .before .before in
     let c-entries = c-newer .before .before .before .before in

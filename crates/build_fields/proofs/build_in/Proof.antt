@@ -1,4 +1,4 @@
--- `layout::build_in` meets its contract.
+-- `build_fields::build_in` meets its contract.
 -- Assumes nothing.
 use mathlib.Core.Path.{_≡_, sym, ap, _∙_}
 use borrow.Author.Needs.{needs}
@@ -7,9 +7,9 @@ use Rattle.fields.specs.Numbers.{number-at}
 use Rattle.fields.specs.Runs.{numbers-at, total, widths-of}
 use Rattle.fields.proofs.Runs.{zero-run}
 use Rattle.ship.specs.Record.{no-build}
-use Rattle.layout.specs.Layout.{cranes, added, build-from}
-use Rattle.layout.proofs.build_in.Statement.{statement}
-use Rattle.layout.proofs.build_in.Tie as tie
+use Rattle.build_fields.specs.Fields.{front, cranes, sizes, added, build-from}
+use Rattle.build_fields.proofs.build_in.Statement.{statement}
+use Rattle.build_fields.proofs.build_in.Tie as tie
 
 -- The 56 bytes are one number, which is 0.
 zero-bytes : (c : tie.Then1) → number-at (c .before .before .before .before .args .block .now) 132 56 ≡ 0
@@ -17,13 +17,13 @@ unfolding number-at
 zero-bytes c = eqb-true _ 0 (sym (c .before .all-zero .ensures) ∙ c .if1 .taken)
 
 returns : tie.Need-returns
-unfolding build-from added cranes total
+unfolding build-from added front cranes sizes total
 returns c =
     let b = c .before .before .before .before .before .args .block .now in
     c .nothing-added .ensures ∙ sym (ap build-from (zero-run b 132 (widths-of (added no-build)) (zero-bytes (c .before))))
 
 returns-2 : tie.Need-returns-2
-unfolding build-from numbers-at added cranes
+unfolding build-from numbers-at added front cranes sizes
 returns-2 c =
     let c3 = c .before .before .before in
     let g = c3 .before .before .before in

@@ -1,11 +1,11 @@
--- `layout::gear_in` meets its contract.
+-- `build_fields::gear_in` meets its contract.
 -- Assumes nothing.
 use mathlib.Core.List.{[], _∷_}
 use Rattle.fields.specs.Runs.{numbers-at}
-use Rattle.layout.specs.Layout.{cranes}
+use Rattle.build_fields.specs.Fields.{cranes}
 use borrow.Author.Needs.{needs}
-use Rattle.layout.proofs.gear_in.Statement.{statement}
-use Rattle.layout.proofs.gear_in.Tie as tie
+use Rattle.build_fields.proofs.gear_in.Statement.{statement}
+use Rattle.build_fields.proofs.gear_in.Tie as tie
 
 returns : tie.Need-returns
 unfolding numbers-at cranes

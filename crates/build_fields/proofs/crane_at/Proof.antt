@@ -1,9 +1,9 @@
--- `layout::crane_at` meets its contract.
+-- `build_fields::crane_at` meets its contract.
 -- Assumes nothing.
 use Rattle.fields.specs.Runs.{numbers-at}
 use borrow.Author.Needs.{needs}
-use Rattle.layout.proofs.crane_at.Statement.{statement}
-use Rattle.layout.proofs.crane_at.Tie as tie
+use Rattle.build_fields.proofs.crane_at.Statement.{statement}
+use Rattle.build_fields.proofs.crane_at.Tie as tie
 
 returns : tie.Need-returns
 unfolding numbers-at
