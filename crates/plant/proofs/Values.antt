@@ -4,11 +4,10 @@ use Prim.Native.Nat.{ℕ, _+_, _*_, _<_}
 use mathlib.Core.List.{List, [], _∷_}
 use native.Mathlib.Nat.{suc-pred-eq-of-pos}
 use native.Mathlib.Omega.{arith}
-use Rattle.formula.specs.Formula.{_//_, Formula, lit, _⊕_, _⊗_, _⊘_, Enclosed}
-use Rattle.formula.specs.Words.{whole, percent}
+use Rattle.formula.specs.Formula.{_//_, Formula, lit, _⊗_, Enclosed}
 use Rattle.exact.specs.Ship.{Deadweight, Kind, bulk, gas, tanker, container, refrigerated, combination, vehicle, general}
 use Rattle.exact.specs.Ship.{Consumption, recorded, neither, Engine, Auxiliary, rule, table, Particulars, Figures}
-use Rattle.exact.specs.Index.{emission, main-emission, rated, P-AE, Capacity, f-i, load}
+use Rattle.exact.specs.Index.{emission, main-emission, rated, P-AE, Capacity, structural, f-i, load}
 use Rattle.formula.proofs.Formulas.{enclosed-≈, enclosed-lit, enclosed-sum, enclosed-product, enclosed-quotient}
 use Rattle.plant.specs.Plant.{grams, main-grams, auxiliary-power, main-N, auxiliary-N, allowance-of, load-of}
 
@@ -44,22 +43,22 @@ auxiliary-N-exact f = enclosed-≈ (enclosed-product (auxiliary-exact (f .ship .
 
 -- Times Capacity f_i is Capacity and 8 % of the lightweight.
 module _ (dwt : Deadweight) (lightweight : ℕ) (some : 0 < dwt .tonnes) where
-  structural : Exactly (whole 1 ⊕ percent 8 ⊗ whole lightweight ⊘ whole (dwt .tonnes)) (100 * dwt .tonnes + 8 * lightweight) (100 * dwt .tonnes)
-  structural =
+  structural-exact : Exactly (structural dwt lightweight) (100 * dwt .tonnes + 8 * lightweight) (100 * dwt .tonnes)
+  unfolding structural
+  structural-exact =
       let pos : 0 < 100 * dwt .tonnes = omega arith in
       enclosed-≈ (enclosed-sum (enclosed-lit _) (enclosed-quotient (enclosed-product (enclosed-lit _) (enclosed-lit _)) (enclosed-lit (dwt .tonnes // 1)) some))
       (record { cross = rw (suc-pred-eq-of-pos pos) (omega arith) })
 
+  own : Exactly (structural dwt lightweight ⊗ lit ((100 * dwt .tonnes) // 100)) (100 * dwt .tonnes + 8 * lightweight) 100
+  own =
+      let pos : 0 < 100 * dwt .tonnes = omega arith in
+      enclosed-≈ (enclosed-product structural-exact (enclosed-lit _)) (record { cross = rw (suc-pred-eq-of-pos pos) (omega arith) })
+
   laden : (kind : Kind) → Exactly (f-i kind dwt lightweight ⊗ lit (Capacity kind dwt // 100)) (Capacity kind dwt + allowance-of kind lightweight) 100
   unfolding f-i Capacity allowance-of
-  laden bulk = enclosed-≈ (enclosed-product structural (enclosed-lit _)) (record { cross = rw (suc-pred-eq-of-pos (pos)) (omega arith) })
-    where
-      pos : 0 < 100 * dwt .tonnes
-      pos = omega arith
-  laden tanker = enclosed-≈ (enclosed-product structural (enclosed-lit _)) (record { cross = rw (suc-pred-eq-of-pos (pos)) (omega arith) })
-    where
-      pos : 0 < 100 * dwt .tonnes
-      pos = omega arith
+  laden bulk = own
+  laden tanker = own
   laden gas = enclosed-≈ (enclosed-product (enclosed-lit _) (enclosed-lit _)) (omega arith)
   laden container = enclosed-≈ (enclosed-product (enclosed-lit _) (enclosed-lit _)) (omega arith)
   laden refrigerated = enclosed-≈ (enclosed-product (enclosed-lit _) (enclosed-lit _)) (omega arith)
