@@ -109,8 +109,8 @@ fn product(a: Bounds, y: Bounds, c: Bounds) -> Bounds
     }
 }
 
-// f_j of a general cargo ship with the speed v, in millionths of a knot. Every speed method keeps v in bounds, and the rules of a hull leave
-// what is asked of it.
+// f_j of a general cargo ship with the speed v, in millionths of a knot. Every speed method keeps v in bounds, and rule 18 leaves what is
+// asked of the hull.
 pub fn general(v: Bounds, hull: Hull) -> Bounds
     requires { ⌜ Fast v × Shaped (hull-of hull) ⌝ }
     ensures { λ r. ⌜ r ≡ general-of v (hull-of hull) ⌝ }
