@@ -44,7 +44,7 @@ listed idle es i (suc n) h = ap (λ (l : List _). getD es i idle ∷ l) (listed 
 
 -- Particulars with other crane entries.
 abbrev with-gear : Particulars → List Crane → Particulars
-with-gear p gear = with-build (p .layout) (record { lightweight = p .build .lightweight; hull = p .build .hull; cranes = p .build .cranes; gear = gear }) p
+with-gear p gear = with-build (p .ice) (p .layout) (record { edition = p .build .edition; lightweight = p .build .lightweight; hull = p .build .hull; cranes = p .build .cranes; gear = gear }) p
 
 -- Each number of the table goes to its place in the record.
 from-table : (s : Ship) → Entries s → ship-from (numbers-of (fields s)) ≡ s
@@ -133,8 +133,8 @@ sealed b e =
 to-table : (b : List ℕ) → Sealed b → numbers-of (fields (ship-in b)) ≡ numbers-in b
 unfolding ship-in ship-from build-from numbers-in numbers-at widths fields head entries entry front cranes sizes added newer zeros-refused
 to-table b h =
-    let z7 = neither _ (nonzero (number-at b 141 3) || nonzero (number-at b 188 320)) (h .zeros) in
-    let z6 = neither (nonzero (number-at b 141 3)) (nonzero (number-at b 188 320)) (z7 .1) in
+    let z7 = neither _ (nonzero (number-at b 142 2) || nonzero (number-at b 188 320)) (h .zeros) in
+    let z6 = neither (nonzero (number-at b 142 2)) (nonzero (number-at b 188 320)) (z7 .1) in
     let z5 = neither _ (nonzero (number-at b 130 2)) (z7 .0) in
     let z4 = neither _ (nonzero (number-at b 110 2)) (z5 .0) in
     let z3 = neither _ (nonzero (number-at b 90 2)) (z4 .0) in
@@ -146,7 +146,7 @@ to-table b h =
       is-zero (number-at b 90 2) (z3 .1),
       is-zero (number-at b 110 2) (z4 .1),
       is-zero (number-at b 130 2) (z5 .1),
-      is-zero (number-at b 141 3) (z6 .0),
+      is-zero (number-at b 142 2) (z6 .0),
       is-zero (number-at b 188 320) (z6 .1),
     ))
 

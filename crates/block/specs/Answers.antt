@@ -26,11 +26,11 @@ length-refused b = not (eqb (length b) 512)
 unfoldable pub check-refused : List ℕ → Bool
 check-refused b = not (eqb (number-at b 508 2) (sums 1 0 (take 508 b) .a)) || not (eqb (number-at b 510 2) (sums 1 0 (take 508 b) .b))
 
--- Bytes 141–143 and 188–507, which no field has yet.
+-- Bytes 142–143 and 188–507, which no field has yet.
 abbrev pub rest-refused : List ℕ → Bool
-rest-refused ns = nonzero (getD ns 55 0) || nonzero (getD ns 75 0)
+rest-refused ns = nonzero (getD ns 56 0) || nonzero (getD ns 76 0)
 
--- 16: a byte that must be zero isn't: one of 49–51, of the last two of an engine entry, of 141–143, or of 188–507.
+-- 16: a byte that must be zero isn't: one of 49–51, of the last two of an engine entry, of 142–143, or of 188–507.
 unfoldable pub zeros-refused : List ℕ → Bool
 zeros-refused b =
     let n = getD (numbers-in b) in

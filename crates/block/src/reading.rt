@@ -39,7 +39,7 @@ fn rest_broken(block: &[u8]) -> bool
     requires { ⌜ length (now block) ≡ 512 ⌝ }
     ensures { λ r. ⌜ r ≡ rest-refused (numbers-in (now (block .entry))) ⌝ }
 {
-    not_zero(block, 141, 144) | not_zero(block, 188, 508)
+    not_zero(block, 142, 144) | not_zero(block, 188, 508)
 }
 
 // Whether a byte that must be zero isn't.

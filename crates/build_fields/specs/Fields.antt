@@ -14,7 +14,8 @@ front b =
     (4, b .lightweight)  -- 132–135
     ∷ (4, b .hull .volume)  -- 136–139
     ∷ (1, b .cranes)  -- 140
-    ∷ (3, 0)  -- 141–143 zero
+    ∷ (1, b .edition)  -- 141
+    ∷ (2, 0)  -- 142–143 zero
     ∷ []
 
 -- A crane entry of 4 bytes.
@@ -60,8 +61,9 @@ gear-from ns =
 unfoldable pub build-from : List ℕ → Build
 build-from ns =
     record {
+      edition = getD ns 3 0;
       lightweight = getD ns 0 0;
-      hull = record { volume = getD ns 1 0; length = getD ns 20 0; breadth = getD ns 21 0; draught = getD ns 22 0 };
+      hull = record { volume = getD ns 1 0; length = getD ns 21 0; breadth = getD ns 22 0; draught = getD ns 23 0 };
       cranes = getD ns 2 0;
-      gear = gear-from (drop 4 ns);
+      gear = gear-from (drop 5 ns);
     }

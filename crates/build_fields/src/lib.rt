@@ -25,6 +25,7 @@ pub fn nothing_added() -> Build
     };
     let none = Crane { swl: 0, reach: 0 };
     Build {
+        edition: 0,
         lightweight: 0,
         hull,
         cranes: 0,
@@ -75,6 +76,7 @@ pub fn build_in(block: &[u8]) -> Build
         draught: number_at(block, 184, 4),
     };
     Build {
+        edition: number_at(block, 141, 1),
         lightweight: number_at(block, 132, 4),
         hull,
         cranes: number_at(block, 140, 1),
@@ -83,7 +85,7 @@ pub fn build_in(block: &[u8]) -> Build
 }
 
 // The widths of bytes 132 to 143, of the crane entries, and of bytes 176 to 507.
-const FRONT: [usize; 4] = [4, 4, 1, 3];
+const FRONT: [usize; 5] = [4, 4, 1, 1, 2];
 
 const GEAR: [usize; 16] = [2, 2, 2, 2, 2, 2, 2, 2, 2, 2, 2, 2, 2, 2, 2, 2];
 
@@ -94,7 +96,7 @@ fn write_front(part: &mut [u8], b: Build)
     ensures { λ r. ⌜ now (part .exit) ≡ packed (front b) ⌝ }
 {
     let widths = FRONT;
-    let numbers = [b.lightweight, b.hull.volume, b.cranes, 0];
+    let numbers = [b.lightweight, b.hull.volume, b.cranes, b.edition, 0];
     put_run(part, &widths, &numbers);
 }
 

@@ -1,4 +1,4 @@
-// Rule 18, of what layout 2 adds; and whether any of it is there, which rule 16 asks of layout 1.
+// Rule 18, of the lightweight, the hull and the cranes that layout 2 adds; and whether any of it is there, which rule 16 asks of layout 1.
 use ship::Build;
 use ship::Crane;
 use ship::Hull;
@@ -33,7 +33,7 @@ fn is_built(b: Build) -> bool
 {
     let hull = b.hull;
     let gear = b.gear;
-    (b.lightweight != 0) | is_shaped(hull) | (b.cranes != 0) | is_geared(gear)
+    (b.edition != 0) | (b.lightweight != 0) | is_shaped(hull) | (b.cranes != 0) | is_geared(gear)
 }
 
 // Rule 16, in layout 1.

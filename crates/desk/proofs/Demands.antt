@@ -14,23 +14,25 @@ use mir.Val.{Val}
 use denote.Shadow.{shadow}
 use denote.Struct.Declared.{row}
 use Rattle.formula.specs.Formula.{_//_, Formula, below, above, bounds, Enclosed}
-use Rattle.exact.specs.Ship.{Deadweight, Kind, Particulars, declared, general, IB-or-IC, Figures}
+use Rattle.exact.specs.Ship.{Deadweight, Kind, Particulars, declared, bulk, vehicle, general, IceClass, IB-or-IC, EEXI, EEDI-first, EEDI-amended, Engine, Figures}
 use Rattle.exact.specs.Ranges.{Range, low, high, Inside, Narrowed, Stands-for, most-favourable, least-favourable}
 use Rattle.formula.specs.Words.{whole, if}
-use Rattle.exact.specs.Index.{f-c, f-i, f-l, f-m, speed, index}
+use Rattle.exact.specs.Index.{P-ME, f-c, f-i, f-l, strengthened, f-m, speed, index}
 use Rattle.formula.proofs.Formulas.{consistent}
-use Rattle.exact.proofs.Rules.{f-i-none, f-l-none}
+use Rattle.exact.proofs.Rules.{P-ME-unlimited, f-i-none, f-l-none, f-c-full}
+use Rattle.exact.proofs.Rules as rules
 use Rattle.exact.proofs.Favour.{stands-most, stands-least, inside-enclosed, ship-inside, low-inside, high-inside}
-use Rattle.ship.specs.Record.{no-build, in-layout}
-use Rattle.ship.specs.Figures.{figures, ice-of}
+use Rattle.ship.specs.Record.{no-build, in-layout, in-class, in-edition}
+use Rattle.ship.specs.Figures.{figures, last-ice, ice-of, edition-of}
 use Rattle.ship.specs.Refusals.{number-of, First, given}
 use Rattle.ship.specs.Rules.{outside, layout-refused, type-refused, tests, refusal-of, ice-refused}
-use Rattle.ship.specs.Accepted.{Within, Accepted-figures}
+use Rattle.ship.specs.Accepted.{Within, Each, no-more, one-more, New-engine, New-ship, Accepted-figures}
 use Rattle.ship.specs.declared.Refusal.{Refusal}
 use Rattle.ship.specs.declared.Refusal.the-variants.{None, Length}
 use Rattle.ship.specs.declared.Ship.{Ship}
 use Rattle.ship.proofs.Tests.{inside as inside-of}
 use Rattle.ship.proofs.Layouts as alike
+use Rattle.ship.proofs.Editions as editions
 use Rattle.ship.proofs.Order.{first-is, first-one, none}
 use Rattle.ship.specs.Ends.{record-end, Narrower-record}
 use Rattle.ship.proofs.Figured.{figures-accepted}
@@ -47,6 +49,8 @@ use Rattle.propeller.specs.Propeller.{Speed}
 use Rattle.index.specs.Attained.{speed-of, lower-of, upper-of, index-of}
 use Rattle.index.specs.declared.Index.{Index}
 use Rattle.index.proofs.Laws as law
+use Rattle.index.proofs.Editions.{bounds-under}
+use Rattle.factor.proofs.Laws.{vehicles-full}
 use Rattle.desk.specs.Answers.{answer-of, answer-of-block, number-in, lower-in, upper-in, Accepted-record, lower, upper}
 use Rattle.desk.specs.declared.Answer.the-variants.{Bounds, Refused}
 use Rattle.desk.proofs.Answering.{refused, bounded, numbered, zero-bounded, block-accepted}
@@ -134,7 +138,7 @@ upper-is {s} t = rw (record-bounded s (t .none))
 
 -- The record s stands for the one ship f.
 module _ {s : Ship} {f : Figures ℕ} (t : Accepted-record s) (one : Stands-for (figures s) f) where
-  -- The bounds enclose the exact index of MEPC.333(76), fractional powers included.
+  -- The bounds enclose the exact index, fractional powers included: the EEXI of MEPC.333(76), or the EEDI of the edition recorded.
   pub encloses : Enclosed (index f) (lower s // 1000000) (upper s // 1000000)
   encloses =
       rw (lower-is t, upper-is t, stands-most one, stands-least one)
@@ -238,15 +242,15 @@ block-record-accepted b e = record { entries = record { engines = rw e; gear = r
 -- ── Ice classes: document 02, Req 01 ────────────────────────────────────────────────────────
 
 -- Stored ones keep their figure: 0 and 1, the two that were taken, are taken still, with the f_m that they had.
-pub ice-kept : (ice : ℕ) → ice ≤ 1 → (ice-refused ice ≡ false) × (f-m (ice-of ice) ≡ if (eqb ice 1) 105 100)
-unfolding f-m
+pub ice-kept : (ice : ℕ) → ice ≤ 1 → (ice-refused ice ≡ false) × (f-m EEXI (ice-of ice) ≡ if (eqb ice 1) 105 100)
+unfolding f-m strengthened
 ice-kept zero h = (refl, refl)
 ice-kept (suc zero) h = (refl, refl)
 ice-kept (suc (suc ice)) h = absurd (omega (arith, h))
 
 -- 2 is IB or IC, whose f_m is 1; refusal 12 is given above 2.
-pub ice-added : (ice-of 2 ≡ IB-or-IC) × (f-m IB-or-IC ≡ 100)
-unfolding f-m
+pub ice-added : (ice-of 2 ≡ IB-or-IC) × (f-m EEXI IB-or-IC ≡ 100)
+unfolding f-m strengthened
 ice-added = (refl, refl)
 
 pub ice-above : (ice : ℕ) → ice-refused ice ≡ true ↔ 2 < ice
@@ -275,3 +279,59 @@ no-cranes s = f-l-none (s .kind) s
 pub same-in-both : (s : Ship) → s .particulars .kind ≤ 7 → s .particulars .build ≡ no-build → answer-of (in-layout 1 s) ≡ answer-of (in-layout 2 s)
 unfolding answer-of
 same-in-both s h e = ap₂ (λ r f. if (eqb (number-of r) 0) (Bounds (index-of f)) (Refused r)) (alike.refused-alike s h e) (alike.figures-alike s)
+
+-- ── New ships, the EEDI in both editions: document 02, Req 06 ───────────────────────────────
+
+-- Byte 141 chooses: 0 EEXI, 1 the first edition, 2 the amended. In layout 1 every ship is EEXI.
+pub edition-numbers : (edition-of 0 ≡ EEXI) × (edition-of 1 ≡ EEDI-first) × (edition-of 2 ≡ EEDI-amended)
+edition-numbers = (refl, refl, refl)
+
+pub layout-1-EEXI : {s : Ship} → Accepted-record s → s .particulars .layout ≡ 1 → figures s .ship .edition ≡ EEXI
+unfolding figures
+layout-1-EEXI {s} t h = ap edition-of (editions.older s (t .none) h)
+
+-- MEPC.308(73) alone has no f_m, whatever the ice class; as amended it has that of the EEXI.
+pub f-m-of-editions : (ice : IceClass) → (f-m EEDI-first ice ≡ 100) × (f-m EEDI-amended ice ≡ f-m EEXI ice)
+f-m-of-editions = rules.f-m-of-editions
+
+module _ {s : Ship} (t : Accepted-record s) (new : figures s .ship .edition ≡ EEXI → ⊥) where
+  -- An accepted EEDI has no limiter, a source for every consumption, and a declared speed.
+  pub new-ship : New-ship (figures s)
+  unfolding figures
+  new-ship = editions.new-ship s (t .entries .engines) (t .none) (λ z. new (ap edition-of z))
+
+  -- So P_ME of every engine, of every ship inside her ranges, is 75 % of MCR.
+  pub new-power : {f : Figures ℕ} → Inside (figures s) f → Each (λ e. P-ME (e .mcr) (e .limit) ≡ 75 * e .mcr) (f .engines)
+  new-power = editions.full-power new-ship
+
+  -- Of types 2 to 7 without ranges, light vehicle carriers too, the bounds are the exact EEDI rounded down and up.
+  module _ {f : Figures ℕ} (one : Stands-for (figures s) f) (cargo : figures s .ship .kind ≡ bulk → ⊥) (other : figures s .ship .kind ≡ general → ⊥) where
+    pub new-rounded-down : (n : ℕ) → bounds below (index f) (n // 1000000) → n ≤ lower s
+    new-rounded-down = rounded-down t one (new-ship .method) other (f-c-full (figures s .ship .kind) (figures s .ship) new cargo)
+
+    pub new-rounded-up : (n : ℕ) → bounds above (index f) (n // 1000000) → upper s ≤ n
+    new-rounded-up = rounded-up t one (new-ship .method) other (f-c-full (figures s .ship .kind) (figures s .ship) new cargo)
+
+-- Edition 1's answer doesn't depend on the ice class.
+pub first-any-class : (s : Ship) (ice : ℕ) → s .particulars .build .edition ≡ 1 → s .particulars .ice ≤ 2 → ice ≤ 2 → answer-of (in-class ice s) ≡ answer-of s
+unfolding answer-of figures
+first-any-class s ice first own listed =
+    let edition = s .particulars .build .edition in
+    ap₂
+    (λ r i. if (eqb (number-of r) 0) (Bounds i) (Refused r))
+    (editions.class-alike s ice listed own)
+    (bounds-under (edition-of edition) (ice-of ice) (figures s) (editions.first-without edition ice first ∙ sym (editions.first-without edition (s .particulars .ice) first)) (λ k. refl))
+
+-- Where the ice class is not 1 and the ship is no light vehicle carrier, she has the same bounds in every edition that accepts her.
+pub same-in-editions : (s : Ship) (edition edition' : ℕ) → Accepted-record (in-edition edition s) → Accepted-record (in-edition edition' s)
+    → (s .particulars .ice ≡ 1 → ⊥) → (figures s .ship .kind ≡ vehicle → 35 * s .particulars .gross .gt ≤ s .particulars .deadweight .tonnes * 100)
+    → answer-of (in-edition edition s) ≡ answer-of (in-edition edition' s)
+unfolding figures
+same-in-editions s edition edition' t t' plain full =
+    let ice = s .particulars .ice in
+    record-bounded _ (t .none)
+    ∙ ap Bounds (
+    bounds-under (edition-of edition) (ice-of ice) (figures (in-edition edition' s)) (editions.others-without edition ice plain ∙ sym (editions.others-without edition' ice plain))
+    (λ k. vehicles-full (edition-of edition) _ _ (full k) ∙ sym (vehicles-full (edition-of edition') _ _ (full k)))
+    )
+    ∙ sym (record-bounded _ (t' .none))

@@ -53,8 +53,12 @@ marked-P =
     ∷ bounds-of (S 1 measured (just 1400)) 4924625 4924626
     ∷ bounds-of (S 2 measured (just 1400)) 5170857 5170858
     ∷ bounds-of (S 0 unmeasured (just 1400)) 5437771 5437772
-    ∷ bounds-of (S-in 2 0 0 measured (just 1400)) 5170857 5170858
-    ∷ bounds-of (S-in 2 0 10000 measured (just 1400)) 5089426 5089427
+    ∷ bounds-of (S-in 2 0 0 0 measured (just 1400)) 5170857 5170858
+    ∷ bounds-of (S-in 2 0 0 10000 measured (just 1400)) 5089426 5089427
+    ∷ bounds-of (S-in 2 1 0 0 measured (just 1400)) 5170857 5170858
+    ∷ bounds-of (S-in 2 1 1 0 measured (just 1400)) 5170857 5170858
+    ∷ bounds-of (S-in 2 2 0 0 measured (just 1400)) 5170857 5170858
+    ∷ bounds-of (S-in 2 2 1 0 measured (just 1400)) 4924625 4924626
     ∷ bounds-of (S 0 (reported (record { low = 1750; high = 1800 }) 3) (record { low = 1350; high = 1400 })) 5037400 5362371
     ∷ P-ME-of 8000 7000 581000
     ∷ P-ME-of 8000 7228 599924

@@ -1,28 +1,28 @@
 -- The laws of f_c and f_l by name: what their users may know of them.
 -- Assumes nothing.
-use Prim.Native.Nat.{ℕ, _*_, _^_, _≤_, _<_}
-use mathlib.Core.Path.{_≡_, refl, ap}
+use Prim.Native.Nat.{ℕ, zero, suc, _*_, _^_, _≤_, _<_}
+use mathlib.Core.Path.{_≡_, refl, sym, ap}
 use mathlib.Core.Bool.{Bool, true, false}
 use native.Mathlib.Nat.{le-trans, mul-le-mul-left, suc-pred-eq-of-pos}
 use native.Mathlib.Omega.{arith}
 use lib.ListN.{length}
-use borrow.Author.Tests.{ltb-true, ltb-false}
+use borrow.Author.Tests.{ltb-true, ltb-false, le-ltb}
 use lib.Dec.{ltb, lit≤, lit<}
 use Rattle.formula.specs.Formula.{_//_, _·_, Side, other, Formula, lit, _⊗_, _⊘_, _↑_, bounds, by-lit, by-quotient}
-use Rattle.exact.specs.Ship.{Deadweight, GrossTonnage, Kind, bulk, gas, tanker, container, refrigerated, combination, vehicle, general, Particulars, Figures}
+use Rattle.exact.specs.Ship.{Deadweight, GrossTonnage, Kind, bulk, gas, tanker, container, refrigerated, combination, vehicle, general, IceClass, Edition, EEXI, EEDI-first, EEDI-amended, Particulars, Figures}
 use Rattle.formula.specs.Words.{whole, percent, if}
-use Rattle.exact.specs.Index.{light-cargo, light-vehicles, f-c, f-l}
+use Rattle.exact.specs.Index.{light-cargo, light-vehicles, vehicles-under, f-c, f-l}
 use Rattle.exact.specs.Ranges.{Range}
 use Rattle.formula.proofs.Fractions.{_≈_, lies-refl, lies-≈}
 use Rattle.formula.proofs.Formulas.{enclosed-≈, enclosed-wider, enclosed-lit, enclosed-product}
 use Rattle.formula.proofs.Powers.{inverse}
-use Rattle.exact.proofs.Rules.{light-cargo-none, light-cargo-some, light-vehicles-none, light-vehicles-some}
-use Rattle.ship.specs.Figures.{kinds, kind-of}
+use Rattle.exact.proofs.Rules.{light-cargo-none, light-cargo-some, light-vehicles-none, light-vehicles-some, under}
+use Rattle.ship.specs.Figures.{kinds, kind-of, last-edition, edition-of}
 use Rattle.ship.specs.Accepted.{Within, Each, Geared, Accepted-figures}
 use Rattle.ship.proofs.Numbered.{by-number}
 use Rattle.power.specs.declared.Bounds.{Bounds}
 use Rattle.power.specs.Power.{Raisable, power-of}
-use Rattle.factor.specs.Factor.{one, cargo-factor, vehicles-factor, cranes-factor, factor-by, Factored}
+use Rattle.factor.specs.Factor.{one, cargo-factor, vehicles-factor, vehicles-by, cranes-factor, factor-by, Factored}
 use Rattle.factor.proofs.Inverses.{turned, above-one}
 use Rattle.factor.proofs.Lifting.{cranes-factored}
 
@@ -117,6 +117,20 @@ module _ (dwt : Deadweight) (gross : GrossTonnage) (d : Within 100 600000 (dwt .
       some (omega (arith, g .most)) most (lit≤ tt) (lit< tt, lit< tt, lit< tt) (lit≤ tt) (lit≤ tt) (λ h. omega arith)
       vehicles-part (light-vehicles-some dwt gross p) (light-vehicles-none dwt gross p)
 
+  -- In the EEXI alone.
+  vehicles-under-follows : (edition : Edition) → Light (vehicles-under edition dwt gross) (vehicles-by edition dwt gross)
+  unfolding vehicles-under vehicles-by
+  vehicles-under-follows EEXI = vehicles-follows
+  vehicles-under-follows EEDI-first = exactly
+  vehicles-under-follows EEDI-amended = exactly
+
+-- From 0.35 on it is 1 in every edition.
+pub vehicles-full : (edition : Edition) (dwt : Deadweight) (gross : GrossTonnage) → 35 * gross .gt ≤ dwt .tonnes * 100 → vehicles-by edition dwt gross ≡ one
+unfolding vehicles-by vehicles-factor
+vehicles-full EEXI dwt gross h = rw (le-ltb (dwt .tonnes * 100) (35 * gross .gt) h)
+vehicles-full EEDI-first dwt gross h = refl
+vehicles-full EEDI-amended dwt gross h = refl
+
 -- ── Every type ──────────────────────────────────────────────────────────────────────────────
 
 -- What the pair is to f_c times f_l: it encloses it, and of types 1 to 7 is exactly 1 where the rule says that f_c is 1, and nowhere else.
@@ -161,7 +175,7 @@ record Fitted (k : Kind) (s : Particulars) : Type 0 where
 by-kind : (k : Kind) (s : Particulars) → Fitted k s → Follows k s (factor-by k s)
 unfolding f-c f-l factor-by
 by-kind bulk s a = by-f-c (cargo-follows (s .deadweight) (s .cargo) (a .deadweight) (a .cargo refl)) refl
-by-kind vehicle s a = by-f-c (vehicles-follows (s .deadweight) (s .gross) (a .deadweight) (a .gross refl)) refl
+by-kind vehicle s a = by-f-c (vehicles-under-follows (s .deadweight) (s .gross) (a .deadweight) (a .gross refl) (s .edition)) refl
 by-kind gas s a = by-f-c exactly refl
 by-kind tanker s a = by-f-c exactly refl
 by-kind container s a = by-f-c exactly refl
@@ -177,14 +191,39 @@ by-kind general s a =
 pub factor-law : {f : Figures Range} → Accepted-figures f → Follows (f .ship .kind) (f .ship) (factor-by (f .ship .kind) (f .ship))
 factor-law {f} a = by-kind (f .ship .kind) (f .ship) (record { deadweight = a .deadweight; gross = a .gross; cargo = a .cargo; cranes = a .cranes; few = a .few })
 
--- ── Types by number ─────────────────────────────────────────────────────────────────────────
+-- Edition and ice class do nothing to it but by a vehicle carrier's.
+pub factor-under : (k : Kind) (edition : Edition) (ice : IceClass) (s : Particulars)
+    → (k ≡ vehicle → vehicles-by edition (s .deadweight) (s .gross) ≡ vehicles-by (s .edition) (s .deadweight) (s .gross))
+    → factor-by k (under edition ice s) ≡ factor-by k s
+unfolding factor-by
+factor-under vehicle edition ice s h = h refl
+factor-under bulk edition ice s h = refl
+factor-under gas edition ice s h = refl
+factor-under tanker edition ice s h = refl
+factor-under container edition ice s h = refl
+factor-under refrigerated edition ice s h = refl
+factor-under combination edition ice s h = refl
+factor-under general edition ice s h = refl
+
+-- ── Editions and types by number ────────────────────────────────────────────────────────────
+
+pub of-new : (edition : ℕ) (dwt : Deadweight) (gross : GrossTonnage) → edition ≤ last-edition → (edition ≡ 0 → ⊥) → one ≡ vehicles-by (edition-of edition) dwt gross
+unfolding vehicles-by
+of-new zero dwt gross h n = absurd (n refl)
+of-new (suc zero) dwt gross h n = refl
+of-new (suc (suc zero)) dwt gross h n = refl
+of-new (suc (suc (suc edition))) dwt gross h n = absurd (omega (arith, h))
+
+pub of-EEXI : (edition : ℕ) (dwt : Deadweight) (gross : GrossTonnage) → edition ≡ 0 → vehicles-factor dwt gross ≡ vehicles-by (edition-of edition) dwt gross
+unfolding vehicles-by
+of-EEXI edition dwt gross h = rw h
 
 module _ (s : Particulars) (k : ℕ) where
   pub of-bulk : k ≡ 1 → cargo-factor (s .deadweight) (s .cargo) ≡ factor-by (kind-of k) s
   unfolding factor-by
   of-bulk e = rw e
 
-  pub of-vehicle : k ≡ 7 → vehicles-factor (s .deadweight) (s .gross) ≡ factor-by (kind-of k) s
+  pub of-vehicle : k ≡ 7 → vehicles-by (s .edition) (s .deadweight) (s .gross) ≡ factor-by (kind-of k) s
   unfolding factor-by
   of-vehicle e = rw e
 

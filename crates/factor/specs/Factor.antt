@@ -5,7 +5,7 @@ use Prim.Native.Nat.{ℕ, _+_, _*_, _/_, _^_, _≤_}
 use mathlib.Core.List.{List, [], _∷_}
 use lib.Dec.{ltb}
 use Rattle.formula.specs.Formula.{Formula, _//_, Enclosed}
-use Rattle.exact.specs.Ship.{Deadweight, GrossTonnage, Kind, bulk, gas, tanker, container, refrigerated, combination, vehicle, general, Crane, Particulars}
+use Rattle.exact.specs.Ship.{Deadweight, GrossTonnage, Kind, bulk, gas, tanker, container, refrigerated, combination, vehicle, general, Crane, Edition, EEXI, EEDI-first, EEDI-amended, Particulars}
 use Rattle.formula.specs.Words.{if}
 use Rattle.number.specs.Division.{ceil-of}
 use Rattle.power.specs.declared.Bounds.{Bounds}
@@ -24,6 +24,12 @@ cargo-factor dwt cargo = if (ltb (dwt .tonnes * 100) (55 * cargo)) (power-of car
 unfoldable pub vehicles-factor : Deadweight → GrossTonnage → Bounds
 vehicles-factor dwt gross = if (ltb (dwt .tonnes * 100) (35 * gross .gt)) (power-of (35 * gross .gt) (100 * dwt .tonnes) 8 10) one
 
+-- In the EEXI alone.
+unfoldable pub vehicles-by : Edition → Deadweight → GrossTonnage → Bounds
+vehicles-by EEXI dwt gross = vehicles-factor dwt gross
+vehicles-by EEDI-first dwt gross = one
+vehicles-by EEDI-amended dwt gross = one
+
 -- What cranes count for, in 10^-6 t: 0.0519 × SWL × reach + 32.11 t each.
 unfoldable pub lifted-of : List Crane → ℕ
 lifted-of [] = 0
@@ -39,7 +45,7 @@ cranes-factor dwt cs =
 -- f_c times f_l, of which a type has at most one. The lower and the upper end, in units of 2^-30. Their last digits are a matter of this definition, and not of the rules.
 unfoldable pub factor-by : Kind → Particulars → Bounds
 factor-by bulk s = cargo-factor (s .deadweight) (s .cargo)
-factor-by vehicle s = vehicles-factor (s .deadweight) (s .gross)
+factor-by vehicle s = vehicles-by (s .edition) (s .deadweight) (s .gross)
 factor-by gas s = one
 factor-by tanker s = one
 factor-by container s = one

@@ -8,11 +8,11 @@ ghost use mathlib.Core.Path.{_≡_};
 ghost use Prim.Native.Nat.{ℕ, _≤_, _<_};
 ghost use lib.ListN.{getD};
 ghost use Rattle.ship.specs.Record.{no-crane};
-ghost use Rattle.ship.specs.Figures.{deadweight-of, crane-of, cranes-of, figures};
+ghost use Rattle.ship.specs.Figures.{deadweight-of, last-edition, edition-of, crane-of, cranes-of, figures};
 ghost use Rattle.ship.specs.Accepted.{Within, Geared};
 ghost use Rattle.ship.specs.Rules.{refusal-of};
 ghost use Rattle.ship.specs.declared.Refusal.the-variants as refusal;
-ghost use Rattle.factor.specs.Factor.{one, cargo-factor, vehicles-factor, lifted-of, cranes-factor, factor-by};
+ghost use Rattle.factor.specs.Factor.{one, cargo-factor, vehicles-factor, vehicles-by, lifted-of, cranes-factor, factor-by};
 
 fn exactly_one() -> Bounds
     ensures { λ r. ⌜ r ≡ one ⌝ }
@@ -50,6 +50,17 @@ fn light_vehicles(deadweight: Deadweight, gross: GrossTonnage) -> Bounds
     }
 }
 
+// A vehicle carrier's, which only the EEXI has. Rule 19 lists the editions.
+fn vehicles(edition: u64, deadweight: Deadweight, gross: GrossTonnage) -> Bounds
+    requires { ⌜ (edition ≤ last-edition) × Within 100 600000 (deadweight .tonnes) × Within 100 400000 (gross .gt) ⌝ }
+    ensures { λ r. ⌜ r ≡ vehicles-by (edition-of edition) (deadweight-of deadweight) (record { gt = gross .gt }) ⌝ }
+{
+    if edition != 0 {
+        return exactly_one();
+    }
+    light_vehicles(deadweight, gross)
+}
+
 // What the cranes that are used count for, in 10^-6 t. Rule 18 bounds them.
 fn lifted(used: u64, gear: [Crane; 8]) -> u64
     requires { ⌜ (used ≤ 8) × ((i : ℕ) → i < used → Geared (crane-of (getD gear i no-crane))) ⌝ }
@@ -79,7 +90,7 @@ fn cranes(deadweight: Deadweight, used: u64, gear: [Crane; 8]) -> Bounds
     }
 }
 
-// f_c times f_l of a record that rules 3 to 18 leave.
+// f_c times f_l of a record that rules 3 to 19 leave.
 pub fn factor(s: Ship) -> Bounds
     requires { ⌜ refusal-of s ≡ refusal.None ⌝ }
     ensures { λ r. ⌜ r ≡ factor-by (figures s .ship .kind) (figures s .ship) ⌝ }
@@ -92,7 +103,7 @@ pub fn factor(s: Ship) -> Bounds
     match kind {
         1 => light_cargo(deadweight, p.cargo),
         2..=6 => exactly_one(),
-        7 => light_vehicles(deadweight, gross),
+        7 => vehicles(p.build.edition, deadweight, gross),
         8 => cranes(deadweight, p.build.cranes, gear),
         _ => Bounds { lo: 0, hi: 0 },
     }

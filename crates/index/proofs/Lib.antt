@@ -1,4 +1,5 @@
 pub mod Rounding
 pub mod Emissions
 pub mod Laws
+pub mod Editions
 pub mod Records

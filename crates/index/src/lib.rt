@@ -44,7 +44,7 @@ fn upper(n: u64, load: u64, v: u64, c: u64) -> u64
     (q + (f - 1)) / f
 }
 
-// The speed bounds of a record that rules 3 to 18 leave. Where neither speed nor power is a range, the most and the least favourable
+// The speed bounds of a record that rules 3 to 19 leave. Where neither speed nor power is a range, the most and the least favourable
 // ship have one speed.
 pub fn speeds(s: Ship) -> SpeedBounds
     requires { ⌜ refusal-of s ≡ refusal.None ⌝ }
@@ -77,7 +77,7 @@ fn main_engines(kind: u64, v: Bounds, hull: Hull, main: Range) -> Range
     }
 }
 
-// The bounds of a record's index from its own speed bounds, where rules 3 to 18 leave it.
+// The bounds of a record's index from its own speed bounds, where rules 3 to 19 leave it.
 pub fn attained(s: Ship, v: SpeedBounds) -> Index
     requires { ⌜ (refusal-of s ≡ refusal.None) × (v ≡ speeds-of (figures s)) ⌝ }
     ensures { λ r. ⌜ r ≡ index-of (figures s) ⌝ }

@@ -80,4 +80,4 @@ unfolding fields entries
 fits s r =
     let e = entry-fits s r in
     let four = fit-append (e 0 (lit< tt)) (fit-append (e 1 (lit< tt)) (fit-append (e 2 (lit< tt)) (e 3 (lit< tt)))) in
-    fit-append (head-fits s r) (fit-append four (newer-fits (s .particulars .build) (r .build)))
+    fit-append (head-fits s r) (fit-append four (newer-fits (s .particulars .build) (r .build) (r .edition)))

@@ -154,7 +154,7 @@ pub load-within : (s : Particulars) → Within 100 600000 (s .deadweight .tonnes
 unfolding load-of
 load-within s w h =
     let c = Capacity-between (s .kind) (s .deadweight) in
-    let f = f-m-between (s .ice) in
+    let f = f-m-between (s .edition) (s .ice) in
     let l = allowance-most (s .kind) (s .lightweight) in
     let k : Within 7000 61600000 (Capacity (s .kind) (s .deadweight) + allowance-of (s .kind) (s .lightweight)) =
     record { least = omega (arith, w .least, c .0); most = omega (arith, w .most, c .1) } in

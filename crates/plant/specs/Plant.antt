@@ -62,7 +62,7 @@ allowance-of general lightweight = 0
 
 -- Capacity with f_i and f_m, in 10^-4 t.
 unfoldable pub load-of : Particulars → ℕ
-load-of s = (Capacity (s .kind) (s .deadweight) + allowance-of (s .kind) (s .lightweight)) * f-m (s .ice)
+load-of s = (Capacity (s .kind) (s .deadweight) + allowance-of (s .kind) (s .lightweight)) * f-m (s .edition) (s .ice)
 
 -- ── Of a record ─────────────────────────────────────────────────────────────────────────────
 

@@ -9,7 +9,7 @@ ghost use lib.ListN.{getD};
 ghost use Rattle.exact.specs.Index.{C-F, f-m};
 ghost use Rattle.exact.specs.Ranges.{low, high, uses-at, engines-at};
 ghost use Rattle.ship.specs.Record.{no-engine};
-ghost use Rattle.ship.specs.Figures.{range-of, kind-of, Listed, ice-of, fuel-of, uses-of, Fuelled, entry-at, mains, auxiliary-of, figures};
+ghost use Rattle.ship.specs.Figures.{range-of, kind-of, Listed, ice-of, edition-of, fuel-of, uses-of, Fuelled, entry-at, mains, auxiliary-of, figures};
 ghost use Rattle.ship.specs.Accepted.{Within, Measured, Supplied};
 ghost use Rattle.ship.specs.Rules.{refusal-of};
 ghost use Rattle.ship.specs.declared.Refusal.the-variants as refusal;
@@ -119,7 +119,7 @@ fn auxiliary_power(method: u64, table: u64, rated: u64) -> u64
     }
 }
 
-// The sum of P_ME of a record that rules 3 to 18 leave, in 1/100 kW, at both ends of its ranges.
+// The sum of P_ME of a record that rules 3 to 19 leave, in 1/100 kW, at both ends of its ranges.
 pub fn powers(s: Ship) -> Range
     requires { ⌜ refusal-of s ≡ refusal.None ⌝ }
     ensures { λ r. ⌜ r ≡ ends-of P-ME-of (figures s) ⌝ }
@@ -128,7 +128,7 @@ pub fn powers(s: Ship) -> Range
     ship::power::power_sums(engines, s.particulars.used)
 }
 
-// The emissions of a record that rules 3 to 18 leave, in 10^-7 g/h, at both ends of its ranges.
+// The emissions of a record that rules 3 to 19 leave, in 10^-7 g/h, at both ends of its ranges.
 pub fn emissions(s: Ship) -> Emitted
     requires { ⌜ refusal-of s ≡ refusal.None ⌝ }
     ensures { λ r. ⌜ r ≡ emitted-of (figures s) ⌝ }
@@ -148,10 +148,13 @@ pub fn emissions(s: Ship) -> Emitted
     Emitted { main, auxiliary }
 }
 
-// f_m by the ice class, in 1/100.
-fn ice_factor(ice: u64) -> u64
-    ensures { λ r. ⌜ (r ≡ f-m (ice-of ice)) × Within 100 105 r ⌝ }
+// f_m by edition and ice class, in 1/100.
+fn ice_factor(edition: u64, ice: u64) -> u64
+    ensures { λ r. ⌜ (r ≡ f-m (edition-of edition) (ice-of ice)) × Within 100 105 r ⌝ }
 {
+    if edition == 1 {
+        return 100;
+    }
     if ice == 1 { 105 } else { 100 }
 }
 
@@ -167,7 +170,7 @@ fn allowance(kind: u64, lightweight: u64) -> u64
     }
 }
 
-// Capacity with f_i and f_m, of a record that rules 3 to 18 leave, in 10^-4 t.
+// Capacity with f_i and f_m, of a record that rules 3 to 19 leave, in 10^-4 t.
 pub fn load(s: Ship) -> u64
     requires { ⌜ refusal-of s ≡ refusal.None ⌝ }
     ensures { λ r. ⌜ r ≡ load-of (figures s .ship) ⌝ }
@@ -176,5 +179,5 @@ pub fn load(s: Ship) -> u64
     let deadweight = p.deadweight;
     let capacity = ship::power::capacity_of(p.kind, deadweight);
     let laden = capacity + allowance(p.kind, p.build.lightweight);
-    laden * ice_factor(p.ice)
+    laden * ice_factor(p.build.edition, p.ice)
 }

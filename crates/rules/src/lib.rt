@@ -1,6 +1,7 @@
-// The rules of a record in their order, with rules 15, 16 and 18, which come last.
+// The rules of a record in their order, with rules 15, 16, 18 and 19, which come last.
 use build_rules::build_broken;
 use build_rules::newer_broken;
+use edition_rules::edition_broken;
 use hull_rules::hull_refusal;
 use plant_rules::plant_refusal;
 use ship::Engine;
@@ -70,7 +71,7 @@ fn unused_broken(used: u64, es: [Engine; 4]) -> bool
         | (used <= 3) & is_occupied(d)
 }
 
-// Rules 15, 16 and 18, of a record that broke none of the others; `zeros` is whether a block has a byte that must be zero and isn't.
+// Rules 15, 16, 18 and 19, of a record that broke none of the others; `zeros` is whether a block has a byte that must be zero and isn't.
 fn trial_refusal(zeros: bool, s: Ship) -> Refusal
     requires { ⌜ first-of (early-tests s) Refusal.None ≡ Refusal.None ⌝ }
     ensures { λ r. ⌜ r ≡ first-of (trial-tests zeros s) Refusal.None ⌝ }
@@ -78,7 +79,8 @@ fn trial_refusal(zeros: bool, s: Ship) -> Refusal
     let p = s.particulars;
     let es = s.engines;
     let build = p.build;
-    let built = first(build_broken(p.kind, build), Refusal::Build, Refusal::None);
+    let edition = first(edition_broken(s), Refusal::Edition, Refusal::None);
+    let built = first(build_broken(p.kind, build), Refusal::Build, edition);
     let unused = first(
         zeros | unused_broken(p.used, es) | newer_broken(p.layout, build),
         Refusal::Unused,

@@ -15,10 +15,10 @@ use Rattle.exact.specs.Ranges as ranges
 use Rattle.exact.specs.Ranges.{both-ends, Stands-for, uses-at, engines-at, method-at, ship-at, low, high, most-favourable, least-favourable}
 use Rattle.ship.specs.Record.{no-engine}
 use Rattle.ship.specs.Refusals.{first-of}
-use Rattle.ship.specs.Figures.{fuel-of, range-of, uses-of, engine-of, mains, method-of, figures}
+use Rattle.ship.specs.Figures.{last-edition, fuel-of, range-of, uses-of, engine-of, mains, method-of, figures}
 use Rattle.ship.specs.Ends.{one-end, uses-end, engine-end, record-end}
 use Rattle.ship.specs.Rules.{outside, between, nonzero, any-used, any-unused, engine-refused, uses-refused, speed-refused, crossed, range-refused, engine-crossed}
-use Rattle.ship.specs.Rules.{trial-refused, occupied, hull-tests, plant-tests, trial-tests, refusal-of}
+use Rattle.ship.specs.Rules.{trial-refused, occupied, not-new, edition-refused, hull-tests, plant-tests, trial-tests, refusal-of}
 use Rattle.ship.specs.declared.Range.{Range}
 use Rattle.ship.specs.declared.Consumption.{Consumption}
 use Rattle.ship.specs.declared.Engine.{Engine}
@@ -177,6 +177,16 @@ module _ (top : Bool) (p : Particulars) (es : List Engine) (few : p .used ≤ 4)
       go true e = rw (kept-power (by-trial (p .method) e)) h
       go false e = rw e (rw e at h)
 
+-- ── Rule 19 asks of nothing that is a range ─────────────────────────────────────────────────
+
+edition : (top : Bool) (s : Ship) → Fails (edition-refused s) → Fails (edition-refused (record-end top s))
+unfolding edition-refused
+edition top s =
+    let p = s .particulars in
+    or' (same (ltb last-edition (p .build .edition)))
+    (and' (nonzero (p .build .edition))
+    (or' (or' (λ h. used top (s .engines) not-new not-new not-new (λ x a b. a) (p .used) h h) (same (eqb (s .auxiliary .source) 3))) (same (between 2 4 (p .method)))))
+
 -- ── The whole record ────────────────────────────────────────────────────────────────────────
 
 pub accepted-end : (top : Bool) (s : Ship) → refusal-of s ≡ None → refusal-of (record-end top s) ≡ None
@@ -210,6 +220,7 @@ accepted-end top s e =
       others top es occupied occupied occupied (λ x a b. unused top x a) (p .used) (q .unused) (q .unused),
       q .newer,
       q .build,
+      edition top s (q .edition),
     )
 
 -- ── The ship that it stands for ─────────────────────────────────────────────────────────────

@@ -11,7 +11,7 @@ use Rattle.ship.specs.Record.{no-build, in-layout}
 use Rattle.ship.specs.Refusals.{first-of}
 use Rattle.ship.specs.Figures.{figures}
 use Rattle.ship.specs.Rules.{outside, imo-refused, type-refused, deadweight-refused, gross-refused, volume-refused, trial-refused, unused-refused, built}
-use Rattle.ship.specs.Rules.{newer-refused, build-refused, hull-tests, plant-tests, trial-tests, refusal-of}
+use Rattle.ship.specs.Rules.{newer-refused, build-refused, edition-refused, hull-tests, plant-tests, trial-tests, refusal-of}
 use Rattle.ship.specs.declared.Build.{Build}
 use Rattle.ship.specs.declared.Ship.{Ship}
 use Rattle.ship.specs.declared.Refusal.{Refusal}
@@ -46,13 +46,14 @@ module _ (s : Ship) (seven : s .particulars .kind ≤ 7) (nothing : s .particula
       ap rows (seven-in-both 1 (p .kind) seven ∙ sym (seven-in-both 2 (p .kind) seven))
 
   trial-alike : trial-tests false (in-layout 1 s) ≡ trial-tests false (in-layout 2 s)
-  unfolding trial-tests trial-refused
+  unfolding trial-tests trial-refused edition-refused
   trial-alike =
       let p = s .particulars in
       let rows : Bool → List (Bool × Refusal) = λ t.
       (trial-refused p (s .engines), refusal.Trial)
       ∷ (unused-refused (p .used) (s .engines) || t, refusal.Unused)
       ∷ (build-refused (p .kind) (p .build), refusal.Build)
+      ∷ (edition-refused s, refusal.Edition)
       ∷ [] in
       ap rows (nothing-newer 1 (p .build) nothing ∙ sym (nothing-newer 2 (p .build) nothing))
 

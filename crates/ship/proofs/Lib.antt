@@ -9,3 +9,4 @@ pub mod Vectors
 pub mod Ends
 pub mod Narrowing
 pub mod Layouts
+pub mod Editions

@@ -12,7 +12,7 @@ use Rattle.formula.specs.Words.{if}
 use Rattle.ship.specs.Refusals.{number-of, First, no-test, given, passed-by, first-of}
 use Rattle.ship.specs.declared.Refusal.{Refusal}
 use Rattle.ship.specs.declared.Refusal.the-variants.{None, Length, Check, Layout, ImoNumber, ShipType, Deadweight, GrossTonnage, CargoVolume, Engines}
-use Rattle.ship.specs.declared.Refusal.the-variants.{Consumption, AuxiliaryPower, IceClass, Speed, Ranges, Trial, Unused, Build, NoBlock}
+use Rattle.ship.specs.declared.Refusal.the-variants.{Consumption, AuxiliaryPower, IceClass, Speed, Ranges, Trial, Unused, Build, Edition, NoBlock}
 
 -- Only none has the number 0.
 pub none : (r : Refusal) → number-of r ≡ 0 → r ≡ None
@@ -34,6 +34,7 @@ none Ranges h = absurd (omega arith)
 none Trial h = absurd (omega arith)
 none Unused h = absurd (omega arith)
 none Build h = absurd (omega arith)
+none Edition h = absurd (omega arith)
 none NoBlock h = absurd (omega arith)
 
 -- No test has none for its refusal.

@@ -12,10 +12,10 @@ use Rattle.exact.specs.Index.{Capacity, sum-P-ME}
 use Rattle.exact.specs.Ranges.{engines-at, low}
 use Rattle.ship.specs.Record.{no-engine, no-crane}
 use Rattle.ship.specs.Refusals.{first-of}
-use Rattle.ship.specs.Figures.{kinds, kind-of, Listed, last-ice, Fuelled, deadweight-of, hull-of, crane-of, mains}
+use Rattle.ship.specs.Figures.{kinds, kind-of, Listed, last-ice, last-edition, Fuelled, deadweight-of, hull-of, crane-of, mains}
 use Rattle.ship.specs.Rules.{outside, between, nonzero, any-used, any-below, layout-refused, imo-refused, type-refused, deadweight-refused, gross-refused, volume-refused, engines-refused}
 use Rattle.ship.specs.Rules.{uses-refused, consumption-refused, auxiliary-refused, ice-refused, speed-refused, crossed, range-refused, engine-crossed}
-use Rattle.ship.specs.Rules.{lifting, shaped, newer-refused, lightweight-refused, crane-refused, cranes-refused, hull-refused, build-refused}
+use Rattle.ship.specs.Rules.{lifting, shaped, newer-refused, lightweight-refused, crane-refused, cranes-refused, hull-refused, build-refused, edition-refused}
 use Rattle.ship.specs.Rules.{ranges-refused, apart, trial-refused, occupied, unused-refused, hull-tests, plant-tests, trial-tests, early-tests, tests, refusal-of}
 use Rattle.ship.specs.Accepted.{Within, Near, Shaped, Geared}
 use Rattle.ship.specs.declared.Range.{Range}
@@ -73,6 +73,7 @@ pub record Passed (z : Bool) (s : Ship) : Type 0 where
   pub unused : unused-refused (s .particulars .used) (s .engines) ≡ false
   pub newer : newer-refused (s .particulars .layout) (s .particulars .build) ≡ false
   pub build : build-refused (s .particulars .kind) (s .particulars .build) ≡ false
+  pub edition : edition-refused s ≡ false
 
 pub all-passed : (zeros : Bool) (s : Ship) → first-of (tests zeros s) refusal.None ≡ refusal.None → Passed zeros s
 unfolding hull-tests plant-tests trial-tests
@@ -88,6 +89,7 @@ all-passed zeros s e =
       unused = k .1;
       newer = n .1;
       build = h 14;
+      edition = h 15;
     }
 
 pub no-refusal : (s : Ship) → refusal-of s ≡ refusal.None → Passed false s
@@ -406,6 +408,7 @@ pub record Accepted-numbers (s : Ship) : Type 0 where
       (sum-P-ME (engines-at low (mains (s .particulars .used) (s .engines)))) (Capacity (kind-of (s .particulars .kind)) (deadweight-of (s .particulars .deadweight)))
   pub others : (i : ℕ) → i < 4 → s .particulars .used ≤ i → getD (s .engines) i no-engine ≡ no-engine
   pub build : Built (s .particulars .kind) (s .particulars .build)
+  pub edition : s .particulars .build .edition ≤ last-edition
 
 -- Rule 11 in the shape of rules 7 and 8.
 supplied : (method power : ℕ) → auxiliary-refused method power ≡ false → Within 1 2 method × Of-type 2 1 50000 method power
@@ -416,6 +419,10 @@ supplied method power e =
     let of : method ≡ 2 → Within 1 50000 power = λ h. inside 1 50000 power (not-with (eqb method 2) _ (k .1) (eq-eqb method 2 h)) in
     let other : method ≡ 1 → power ≡ 0 = λ h. is-zero power (not-with (eqb method 1) _ (j .1) (eq-eqb method 1 h)) in
     (w, record { least = λ h. of h .least; most = cases method 2 (λ h. of h .most) (λ h. omega (arith, other (omega arith))) })
+
+listed-edition : (s : Ship) → edition-refused s ≡ false → s .particulars .build .edition ≤ last-edition
+unfolding edition-refused
+listed-edition s e = ltb-false last-edition (s .particulars .build .edition) (neither (ltb last-edition (s .particulars .build .edition)) _ e .0)
 
 pub numbers-accepted : (s : Ship) → refusal-of s ≡ refusal.None → Accepted-numbers s
 numbers-accepted s e =
@@ -455,4 +462,5 @@ numbers-accepted s e =
       trial = trialled p es (v .method) (q .trial);
       others = λ i f g. idle (getD es i no-engine) (each-unused occupied (p .used) es (q .unused) i f g);
       build = built-so (p .kind) (p .build) (q .build);
+      edition = listed-edition s (q .edition);
     }

@@ -81,6 +81,21 @@ pub record Geared (c : Crane) : Type 0 where
   pub swl : Within 1 10000 (c .swl)
   pub reach : Within 1 10000 (c .reach)
 
+-- What 19 leaves of a new ship, whose index is an EEDI: no engine has a limiter, every consumption has a source, and the speed is declared.
+abbrev pub Sourced : Consumption Range → Type 0
+Sourced (recorded sfc fuel) = Unit {0}
+Sourced neither = ⊥
+
+pub record New-engine (e : Engine Range) : Type 0 where
+  pub unlimited : e .limit ≡ 0
+  pub uses : Sourced (e .uses)
+
+pub record New-ship (f : Figures Range) : Type 0 where
+  pub engines : Each New-engine (f .engines)
+  pub auxiliary-uses : Sourced (f .auxiliary-uses)
+  pub speed : Range
+  pub method : f .method ≡ declared speed
+
 pub record Accepted-figures (f : Figures Range) : Type 0 where
   pub deadweight : Within 100 600000 (f .ship .deadweight .tonnes)
   pub gross : f .ship .kind ≡ vehicle → Within 100 400000 (f .ship .gross .gt)

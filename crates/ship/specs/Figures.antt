@@ -45,6 +45,16 @@ last-ice = length ice-classes - 1
 abbrev pub ice-of : ℕ → exact.IceClass
 ice-of n = getD ice-classes n exact.no-ice-class
 
+-- Editions by number, from 0.
+abbrev pub editions : List exact.Edition
+editions = exact.EEXI ∷ exact.EEDI-first ∷ exact.EEDI-amended ∷ []
+
+abbrev pub last-edition : ℕ
+last-edition = length editions - 1
+
+abbrev pub edition-of : ℕ → exact.Edition
+edition-of n = getD editions n exact.EEXI
+
 abbrev pub range-of : Range → ranges.Range
 range-of r = record { low = r .low; high = r .high }
 
@@ -102,6 +112,7 @@ figures s =
         cargo = p .cargo;
         auxiliary = auxiliary-of (p .supply) (p .table);
         ice = ice-of (p .ice);
+        edition = edition-of (p .build .edition);
         lightweight = p .build .lightweight;
         hull = hull-of (p .build .hull);
         cranes = cranes-of (p .build .cranes) (p .build .gear);

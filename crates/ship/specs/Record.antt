@@ -19,6 +19,7 @@ no-crane = record { swl = 0; reach = 0 }
 abbrev pub no-build : Build
 no-build =
     record {
+      edition = 0;
       lightweight = 0;
       hull = record { volume = 0; length = 0; breadth = 0; draught = 0 };
       cranes = 0;
@@ -30,9 +31,9 @@ pub record Entries (s : Ship) : Type 0 where
   pub engines : length (s .engines) ≡ 4
   pub gear : length (s .particulars .build .gear) ≡ 8
 
--- Particulars with another layout and build.
-abbrev pub with-build : ℕ → Build → Particulars → Particulars
-with-build layout build p =
+-- Particulars with another ice class, layout and build.
+abbrev pub with-build : (ice layout : ℕ) → Build → Particulars → Particulars
+with-build ice layout build p =
     record {
       imo = p .imo;
       kind = p .kind;
@@ -43,18 +44,34 @@ with-build layout build p =
       trial = p .trial;
       supply = p .supply;
       table = p .table;
-      ice = p .ice;
+      ice = ice;
       used = p .used;
       layout = layout;
       build = build;
     }
 
--- The same record in another layout.
-abbrev pub in-layout : ℕ → Ship → Ship
-in-layout layout s =
+-- The same record with these.
+abbrev pub ship-with : (ice layout : ℕ) → Build → Ship → Ship
+ship-with ice layout build s =
     record {
-      particulars = with-build layout (s .particulars .build) (s .particulars);
+      particulars = with-build ice layout build (s .particulars);
       speed = s .speed;
       auxiliary = s .auxiliary;
       engines = s .engines;
     }
+
+-- The same record in another layout, ice class or edition.
+abbrev pub in-layout : ℕ → Ship → Ship
+in-layout layout s = ship-with (s .particulars .ice) layout (s .particulars .build) s
+
+abbrev pub in-class : ℕ → Ship → Ship
+in-class ice s = ship-with ice (s .particulars .layout) (s .particulars .build) s
+
+abbrev pub in-edition : ℕ → Ship → Ship
+in-edition edition s =
+    let b = s .particulars .build in
+    ship-with
+    (s .particulars .ice)
+    (s .particulars .layout)
+    (record { edition = edition; lightweight = b .lightweight; hull = b .hull; cranes = b .cranes; gear = b .gear })
+    s

@@ -6,7 +6,7 @@ use mathlib.Core.Bool.{Bool, true, false}
 use Rattle.formula.specs.Words.{if}
 use Rattle.ship.specs.declared.Refusal.{Refusal}
 use Rattle.ship.specs.declared.Refusal.the-variants.{None, Length, Check, Layout, ImoNumber, ShipType, Deadweight, GrossTonnage, CargoVolume, Engines}
-use Rattle.ship.specs.declared.Refusal.the-variants.{Consumption, AuxiliaryPower, IceClass, Speed, Ranges, Trial, Unused, Build, NoBlock}
+use Rattle.ship.specs.declared.Refusal.the-variants.{Consumption, AuxiliaryPower, IceClass, Speed, Ranges, Trial, Unused, Build, Edition, NoBlock}
 
 -- The document's number of each refusal; 0 is none.
 abbrev pub number-of : Refusal → ℕ
@@ -29,6 +29,7 @@ number-of Trial = 15
 number-of Unused = 16
 number-of NoBlock = 17
 number-of Build = 18
+number-of Edition = 19
 
 -- Tests in order of checking, each with the refusal that is given where it holds.
 -- `First ts rest r`: r is the refusal of the first test that holds, or rest where none does.

@@ -1,4 +1,4 @@
--- The refusals of a record, 3 to 16 and 18: each definition says when its refusal is given, and one list has them in order of checking.
+-- The refusals of a record, 3 to 16, 18 and 19: each definition says when its refusal is given, and one list has them in order of checking.
 -- Assumes nothing.
 use Prim.Native.Nat.{ℕ, zero, suc, _+_, _*_, _/_, _%_}
 use mathlib.Core.List.{List, [], _∷_, _++_}
@@ -9,7 +9,7 @@ use Rattle.exact.specs.Index.{Capacity, sum-P-ME}
 use Rattle.exact.specs.Ranges.{engines-at, low}
 use Rattle.ship.specs.Record.{no-engine, no-crane}
 use Rattle.ship.specs.Refusals.{first-of}
-use Rattle.ship.specs.Figures.{kinds, kind-of, last-ice, deadweight-of, mains}
+use Rattle.ship.specs.Figures.{kinds, kind-of, last-ice, last-edition, deadweight-of, mains}
 use Rattle.ship.specs.declared.Deadweight.{Deadweight}
 use Rattle.ship.specs.declared.GrossTonnage.{GrossTonnage}
 use Rattle.ship.specs.declared.Range.{Range}
@@ -173,7 +173,8 @@ abbrev pub shaped : Hull → Bool
 shaped h = nonzero (h .volume) || nonzero (h .length) || nonzero (h .breadth) || nonzero (h .draught)
 
 unfoldable pub built : Build → Bool
-built b = nonzero (b .lightweight) || shaped (b .hull) || nonzero (b .cranes) || any-below (λ i. lifting (getD (b .gear) i no-crane)) 8
+built b =
+    nonzero (b .edition) || nonzero (b .lightweight) || shaped (b .hull) || nonzero (b .cranes) || any-below (λ i. lifting (getD (b .gear) i no-crane)) 8
 
 abbrev pub newer-refused : ℕ → Build → Bool
 newer-refused layout b = eqb layout 1 && built b
@@ -203,6 +204,18 @@ hull-refused kind h =
 unfoldable pub build-refused : ℕ → Build → Bool
 build-refused kind b = lightweight-refused kind (b .lightweight) || cranes-refused kind (b .cranes) (b .gear) || hull-refused kind (b .hull)
 
+-- 19: no edition of that number; an EEDI with a limiter or source 3 of a used engine, with source 3 of the auxiliaries, or with speed
+-- methods 2–4.
+abbrev pub not-new : Engine → Bool
+not-new e = nonzero (e .limit) || eqb (e .uses .source) 3
+
+unfoldable pub edition-refused : Ship → Bool
+edition-refused s =
+    let edition = s .particulars .build .edition in
+    ltb last-edition edition
+    || nonzero edition
+    && (any-used not-new (s .particulars .used) (s .engines) || eqb (s .auxiliary .source) 3 || between 2 4 (s .particulars .method))
+
 -- ── In order of checking ────────────────────────────────────────────────────────────────────
 
 -- 3 to 8, of the layout and the hull.
@@ -230,13 +243,14 @@ plant-tests s =
     ∷ (ranges-refused s, refusal.Ranges)
     ∷ []
 
--- 15, 16 and 18. Whether a byte that must be zero isn't is what a block brings to 16; a record has no such byte.
+-- 15, 16, 18 and 19. Whether a byte that must be zero isn't is what a block brings to 16; a record has no such byte.
 unfoldable pub trial-tests : Bool → Ship → List (Bool × Refusal)
 trial-tests zeros s =
     let p = s .particulars in
     (trial-refused p (s .engines), refusal.Trial)
     ∷ (zeros || unused-refused (p .used) (s .engines) || newer-refused (p .layout) (p .build), refusal.Unused)
     ∷ (build-refused (p .kind) (p .build), refusal.Build)
+    ∷ (edition-refused s, refusal.Edition)
     ∷ []
 
 -- Those that calculate nothing, and all of them.

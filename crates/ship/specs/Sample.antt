@@ -12,9 +12,9 @@ use Rattle.ship.specs.declared.Ship.{Ship}
 abbrev pub reported : Range → ℕ → Consumption
 reported sfc fuel = record { sfc = sfc; fuel = fuel; source = 1 }
 
--- With its layout, its ice class, its lightweight, its main engine's consumption and its speed.
-abbrev pub S-in : ℕ → ℕ → ℕ → Consumption → Range → Ship
-S-in layout ice lightweight uses speed =
+-- With its layout, its edition, its ice class, its lightweight, its main engine's consumption and its speed.
+abbrev pub S-in : (layout edition ice lightweight : ℕ) → Consumption → Range → Ship
+S-in layout edition ice lightweight uses speed =
     record {
       particulars = record {
         imo = 9074729;
@@ -30,6 +30,7 @@ S-in layout ice lightweight uses speed =
         used = 1;
         layout = layout;
         build = record {
+          edition = edition;
           lightweight = lightweight;
           hull = record { volume = 0; length = 0; breadth = 0; draught = 0 };
           cranes = 0;
@@ -42,4 +43,4 @@ S-in layout ice lightweight uses speed =
     }
 
 abbrev pub S : ℕ → Consumption → Range → Ship
-S ice = S-in 1 ice 0
+S ice = S-in 1 0 ice 0

@@ -54,8 +54,9 @@ pub struct Crane {
     pub reach: u64,
 }
 
-// What layout 2 adds: lightweight in tonnes; the first `cranes` crane entries count.
+// What layout 2 adds: the edition, 0 EEXI, 1 EEDI, 2 EEDI as amended; lightweight in tonnes; the first `cranes` crane entries count.
 pub struct Build {
+    pub edition: u64,
     pub lightweight: u64,
     pub hull: Hull,
     pub cranes: u64,
@@ -107,6 +108,7 @@ pub enum Refusal {
     Trial,
     Unused,
     Build,
+    Edition,
     NoBlock,
 }
 
@@ -134,6 +136,7 @@ pub fn number(refusal: Refusal) -> u8
         Refusal::Unused => 16,
         Refusal::NoBlock => 17,
         Refusal::Build => 18,
+        Refusal::Edition => 19,
     }
 }
 

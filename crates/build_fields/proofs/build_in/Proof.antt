@@ -25,12 +25,13 @@ returns c =
 returns-2 : tie.Need-returns-2
 unfolding build-from numbers-at added front cranes sizes
 returns-2 c =
-    let c3 = c .before .before .before in
+    let c3 = c .before .before .before .before in
     let g = c3 .before .before .before in
     λ i. record {
-      lightweight = c .before .number-at5 .ensures i;
-      hull = record { volume = c3 .before .before .number-at .ensures i; length = c3 .before .number-at2 .ensures i; breadth = c3 .number-at3 .ensures i; draught = c .before .before .number-at4 .ensures i };
-      cranes = c .number-at6 .ensures i;
+      edition = c .before .before .number-at5 .ensures i;
+      lightweight = c .before .number-at6 .ensures i;
+      hull = record { volume = c3 .before .before .number-at .ensures i; length = c3 .before .number-at2 .ensures i; breadth = c3 .number-at3 .ensures i; draught = c .before .before .before .number-at4 .ensures i };
+      cranes = c .number-at7 .ensures i;
       gear = g .gear-in .ensures i;
     }
 
@@ -39,4 +40,5 @@ build-in-spec =
     tie.close
     (tie.spec
     (λ c. search needs) (λ c. search needs) (λ c. search needs) (λ c κs. search needs) (λ c κs. search needs) returns (λ c κs. search needs)
-    (λ c κs. search needs) (λ c κs. search needs) (λ c κs. search needs) (λ c κs. search needs) (λ c κs. search needs) (λ c κs. search needs) returns-2)
+    (λ c κs. search needs) (λ c κs. search needs) (λ c κs. search needs) (λ c κs. search needs) (λ c κs. search needs) (λ c κs. search needs)
+    (λ c κs. search needs) returns-2)

@@ -18,10 +18,10 @@ light-cargo-requires c κs =
     let r = given (c .before .before .before .before .before) in
     (r .deadweight, record { least = r .cargo .least (c .match .keys1); most = r .cargo .most })
 
-light-vehicles-requires : tie.Need-light-vehicles-requires
-light-vehicles-requires c κs =
+vehicles-requires : tie.Need-vehicles-requires
+vehicles-requires c κs =
     let r = given (c .before .before .before .before .before) in
-    (r .deadweight, record { least = r .gross .least (c .match .keys2); most = r .gross .most })
+    (r .edition, r .deadweight, record { least = r .gross .least (c .match .keys2); most = r .gross .most })
 
 cranes-requires : tie.Need-cranes-requires
 cranes-requires c κs =
@@ -38,7 +38,7 @@ returns-2 : tie.Need-returns-2
 unfolding figures
 returns-2 c =
     let s = c .before .before .before .before .before .before .args .s in
-    c .light-vehicles .ensures ∙ of-vehicle (figures s .ship) (s .particulars .kind) (c .before .match .keys2)
+    c .vehicles .ensures ∙ of-vehicle (figures s .ship) (s .particulars .kind) (c .before .match .keys2)
 
 returns-3 : tie.Need-returns-3
 unfolding figures
@@ -67,4 +67,4 @@ returns-6 c =
 pub factor-spec : {M : Type 1} → statement M
 factor-spec =
     tie.close
-    (tie.spec light-cargo-requires light-vehicles-requires cranes-requires (λ c κs. search needs) returns returns-2 returns-3 returns-4 returns-5 returns-6)
+    (tie.spec light-cargo-requires vehicles-requires cranes-requires (λ c κs. search needs) returns returns-2 returns-3 returns-4 returns-5 returns-6)

@@ -9,7 +9,7 @@ use Rattle.rules.proofs.trial_refusal.Tie as tie
 
 trial-broken-requires : tie.Need-trial-broken-requires
 trial-broken-requires c κs =
-    let start = c .before .before .before .before .before .before .before .before in
+    let start = c .before .before .before .before .before .before .before .before .before .before in
     let p = early (start .args .s) (start .pre) in
     (p .kind, p .deadweight, p .engines)
 
@@ -19,18 +19,21 @@ returns c =
     let unused = c .before .before in
     let built = unused .before .before .before in
     rw (
-      c .first3 .ensures,
+      c .first4 .ensures,
       c .before .trial-broken .ensures,
-      unused .first2 .ensures,
+      unused .first3 .ensures,
       unused .before .newer-broken .ensures,
       unused .before .before .unused-broken .ensures,
-      built .first .ensures,
+      built .first2 .ensures,
       built .before .build-broken .ensures,
+      built .before .before .first .ensures,
+      built .before .before .before .edition-broken .ensures,
     )
 
 pub trial-refusal-spec : {M : Type 1} → statement M
 trial-refusal-spec =
     tie.close
     (tie.spec
-    (λ c κs. search needs) (λ c κs. search needs) (λ c κs. search needs) (λ c κs. search needs) (λ c κs. search needs) trial-broken-requires
+    (λ c κs. search needs) (λ c κs. search needs) (λ c κs. search needs) (λ c κs. search needs) (λ c κs. search needs) (λ c κs. search needs)
+    (λ c κs. search needs) trial-broken-requires
     (λ c κs. search needs) returns)
