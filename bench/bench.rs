@@ -1,5 +1,6 @@
-// Times a program against its rival on five fleets of 65,536 blocks from a fixed seed; nothing is stored.
-// The first four are the fleets of layout 1 as they were before there was another, so that times can be compared.
+// Times a program against its rival on six fleets of 65,536 blocks from a fixed seed; nothing is stored.
+// The first four are the fleets of layout 1 as they were before there was another, so that times can be compared; a fleet that joins
+// them is drawn last, which leaves the others as they were.
 // Before it is timed, every line of both is held to the reference.
 // Usage: bench ROOM RIVAL PROGRAM [ARGUMENT...]
 #[path = "../tests/breaks.rs"]
@@ -56,6 +57,14 @@ fn coasters(random: &mut Random) -> Vec<Block> {
     }).collect()
 }
 
+// New ships of all types in both editions of the EEDI, every fourth with ranges.
+fn new_ships(random: &mut Random) -> Vec<Block> {
+    (0..MOST_BLOCKS).map(|number| {
+        let (kind, edition) = (random.from(1, 8), random.from(1, 2));
+        draw_new(random, kind, edition, number % 4 == 0)
+    }).collect()
+}
+
 fn command(program: &[String], path: &str) -> Command {
     let mut command = Command::new(&program[0]);
     command.args(&program[1..]).stdin(File::open(path).unwrap_or_else(|_| fail("no input file")));
@@ -106,13 +115,14 @@ fn main() {
     println!("Best of {} runs on {} blocks; cost per block without the start of the program.", ROUNDS, MOST_BLOCKS);
     println!("start: program {:.1} ms, rival {:.1} ms", millis(start[0]), millis(start[1]));
     println!("{:<12}{:>14}{:>14}{:>18}{:>18}{:>10}", "ships", "program ms", "rival ms", "program us/block", "rival us/block", "ratio");
-    for name in ["declared", "trial", "statistical", "mixed", "coasters"].iter() {
+    for name in ["declared", "trial", "statistical", "mixed", "coasters", "new ships"].iter() {
         let blocks = match *name {
             "declared" => fleet(random, &[1], MOST_BLOCKS),
             "trial" => fleet(random, &[2, 3], MOST_BLOCKS),
             "statistical" => fleet(random, &[4], MOST_BLOCKS),
             "mixed" => mixed(random),
-            _ => coasters(random),
+            "coasters" => coasters(random),
+            _ => new_ships(random),
         };
         let bytes: Vec<u8> = blocks.iter().flat_map(|block| block.iter().cloned()).collect();
         write(&path, &bytes).unwrap_or_else(|_| fail("no room for 32 MiB"));

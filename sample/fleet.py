@@ -14,6 +14,7 @@ TYPES = ["bulk", "gas", "tanker", "container", "reefer", "combination", "vehicle
 FUELS = ["diesel", "light", "heavy", "propane", "butane", "lng", "methanol", "ethanol"]
 SOURCES = ["test", "maker"]
 ICE_CLASSES = {"-": 0, "IA Super": 1, "IA": 1, "IB": 2, "IC": 2}
+EDITIONS = {"EEXI": 0, "EEDI 308": 1, "EEDI 322": 2}
 CUT = 200
 
 
@@ -77,12 +78,12 @@ def cranes(cell):
     return figures
 
 
-def newer(hull_cell, crane_cell):
+def newer(hull_cell, crane_cell, edition="EEXI"):
     """Bytes 132 to 187, which only layout 2 has."""
     weight_and_volume, sizes = hull(hull_cell)
     entries = cranes(crane_cell)
     loads = b"".join(struct.pack("<HH", *entry) for entry in entries).ljust(32, b"\0")
-    return struct.pack("<IIB3x", *weight_and_volume, len(entries)) + loads + struct.pack("<III", *sizes)
+    return struct.pack("<IIBB2x", *weight_and_volume, len(entries), EDITIONS[edition]) + loads + struct.pack("<III", *sizes)
 
 
 def check(data):
@@ -94,18 +95,18 @@ def check(data):
 
 
 def block(row):
-    """A row with hull and cranes is a block of layout 2, one without them of layout 1."""
-    _, kind, imo, deadweight, gross_tonnage, volume, speed_cell, aux, ice, sent, *hull_and_cranes, aux_consumption, engine_cells = row
+    """A row with hull and cranes is a block of layout 2, of a new ship if it has an edition too; one without them is of layout 1."""
+    _, kind, imo, deadweight, gross_tonnage, volume, speed_cell, aux, ice, sent, *newer_cells, aux_consumption, engine_cells = row
     method, low, high, trial_power, trial_deadweight = speed(speed_cell)
     engines = [engine(cell.strip()) for cell in engine_cells.split(";")]
     sfc_low, sfc_high, fuel, source = consumption(aux_consumption)
     aux_method, table_power = (1, 0) if aux == "rule" else (2, int(aux.split()[1]))
-    layout = 2 if hull_and_cranes else 1
+    layout = 2 if newer_cells else 1
     data = struct.pack("<HBBIIIIIIII", layout, TYPES.index(kind) + 1, method, int(imo), int(deadweight), number(gross_tonnage),
                        number(volume), low, high, trial_power, trial_deadweight)
     data += struct.pack("<BBBBIHHB3x", aux_method, ICE_CLASSES[ice], len(engines), source, table_power, sfc_low, sfc_high, fuel)
     data = (data + b"".join(engines)).ljust(132, b"\0")
-    data = (data + (newer(*hull_and_cranes) if hull_and_cranes else b"")).ljust(508, b"\0")
+    data = (data + (newer(*newer_cells) if newer_cells else b"")).ljust(508, b"\0")
     data += check(data)
     if sent == "damaged":
         data = data[:12] + bytes([data[12] ^ 1]) + data[13:]

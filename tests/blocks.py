@@ -1,6 +1,6 @@
 #!/usr/bin/env python3
 """Cases for the programs `files` and `fleet`, from the rules alone (docs/RULES.md): the tables of both layouts, the table of refusals,
-the writer, and what `fleet` prints for ship S in each ice class and with a lightweight.
+the writer, and what `fleet` prints for ship S in each ice class and edition and with a lightweight.
 
     tests/blocks.py            writes stdin and stdout of the programs
     tests/blocks.py --check    says whether the stored ones are these
@@ -26,11 +26,12 @@ for k in range(4):
     for name, (at, width) in ENTRY.items():
         PLACES[f"{name}{k}"] = (52 + 20 * k + at, width)
 # Layout 2's own fields; in layout 1 they are zero.
-NEWER = {"lightweight": (132, 4), "displacement": (136, 4), "cranes": (140, 1), "length": (176, 4), "breadth": (180, 4), "draught": (184, 4)}
+NEWER = {"lightweight": (132, 4), "displacement": (136, 4), "cranes": (140, 1), "edition": (141, 1), "length": (176, 4), "breadth": (180, 4),
+         "draught": (184, 4)}
 for k in range(8):
     NEWER[f"load{k}"], NEWER[f"reach{k}"] = (144 + 4 * k, 2), (146 + 4 * k, 2)
 PLACES.update(NEWER)
-ZERO = [49, 50, 51] + [52 + 20 * k + j for k in range(4) for j in (18, 19)] + [141, 142, 143] + list(range(188, 508))
+ZERO = [49, 50, 51] + [52 + 20 * k + j for k in range(4) for j in (18, 19)] + [142, 143] + list(range(188, 508))
 
 
 def sums(data):
@@ -79,6 +80,14 @@ def newer_are_right(f):
     if not (10 <= length <= 500 and 2 <= breadth <= 100 and Fraction(1, 2) <= draught <= 40):
         return False
     return 100 <= f["displacement"] <= 1000000 and f["displacement"] <= length * breadth * draught
+
+
+def edition_is_right(f):
+    """Whether the edition is one, and an EEDI's ship one that can have it: rule 19."""
+    engines = range(f["engines"])
+    sources = [f["aux_source"]] + [f[f"source{k}"] for k in engines]
+    limited = any(f[f"limit{k}"] for k in engines)
+    return f["edition"] == 0 or f["edition"] in (1, 2) and not limited and 3 not in sources and f["method"] == 1
 
 
 def refusal(piece):
@@ -151,7 +160,9 @@ def refusal(piece):
         return 16
     if f["layout"] == 1 and any(f[name] for name in NEWER):
         return 16
-    return 0 if newer_are_right(f) else 18
+    if not newer_are_right(f):
+        return 18
+    return 0 if edition_is_right(f) else 19
 
 
 # ── Ships that are accepted ──────────────────────────────────────────────────────────────────────
@@ -379,14 +390,14 @@ case(15, block(TRIAL, trial_power=4294967295))
 for at in ZERO[:11] + [132, 133, 300, 506, 507]:
     case(16, block(S, bytes={at: 1}))
     case(16, block(FOUR, bytes={at: 255}))
-for at in ZERO[:11] + [141, 142, 143, 188, 189, 300, 506, 507]:
+for at in ZERO[:11] + [142, 143, 188, 189, 300, 506, 507]:
     case(16, block(S2, bytes={at: 1}))
     case(16, block(CRANES, bytes={at: 255}))
 for at in range(132, 188):
     case(16, block(S, bytes={at: 1}))
 for name, values in (("lightweight", (99, 100, 10000, 200000, 200001)), ("displacement", (100, 8000, 1000000)), ("cranes", (1, 8, 9)),
                      ("load0", (1, 10000, 10001)), ("reach7", (1, 10000, 10001)), ("length", (999, 1000, 50000, 50001)),
-                     ("breadth", (199, 200, 10000, 10001)), ("draught", (49, 50, 4000, 4001))):
+                     ("breadth", (199, 200, 10000, 10001)), ("draught", (49, 50, 4000, 4001)), ("edition", (2, 3))):
     for value in values:
         case(16, block(S, **{name: value}))
 case(16, block({**COASTER, "layout": 1, "type": 6}))
@@ -451,12 +462,38 @@ for length, breadth, draught, full in ((10000, 2000, 500, 10000), (9999, 2001, 5
 case(18, block(COASTER, length=1000, breadth=200, draught=499, displacement=100))
 case(18, block(COASTER, length=1000, breadth=200, draught=50, displacement=10))
 
+# 19: the edition
+NEW = {**S2, "edition": 1}
+AMENDED = {**FOUR, "layout": 2, "edition": 2, "lightweight": 10000, "ice": 1}
+LIGHT = {**VEHICLE, "layout": 2, "gross": 60000}  # 0.333, below 0.35
+for edition, wanted in ((1, 0), (2, 0), (3, 19), (128, 19), (255, 19)):
+    case(wanted, block(S2, edition=edition))
+for k, ship in enumerate([*OTHERS[1:6], LIGHT, CRANES]):  # every other type, the editions in turn
+    case(0, block(ship, edition=1 + k % 2))
+case(0, block(AMENDED))
+case(0, block(NEW, speed_low=1350, sfc_low0=1750, mcr_low0=7900, aux_low=1999))
+none = {"source": 3, "sfc_low": 0, "sfc_high": 0, "fuel": 0}
+no_main, no_last = ({f"{name}{k}": number for name, number in none.items()} for k in (0, 3))
+no_aux = {"aux_source": 3, "aux_low": 0, "aux_high": 0, "aux_fuel": 0}
+for fault in ({"limit0": 8000}, no_main, no_aux):
+    case(19, block(NEW, **fault))
+case(0, block(S2, limit0=8000, **no_main, **no_aux))  # of the EEXI; the other methods stand in layout 2 above
+for fault in ({"limit1": 8000}, {"limit3": 8000}, no_last, no_aux):
+    case(19, block(AMENDED, **fault))
+for ship, edition in ((TRIAL, 1), (DESIGN, 2), (STATISTICAL, 1), (COASTER_TRIAL, 2)):
+    case(19, block(ship, layout=2, edition=edition))
+case(16, block(NEW, limit1=8000))  # an unused entry
+case(16, block(NEW, source1=3))
+case(16, block(S2, edition=3, bytes={142: 1}))
+case(18, block(NEW, limit0=8000, lightweight=99))
+case(14, block(COASTER, edition=1, speed_low=1399))
+
 # The order: a block that breaks rule n and every later one
 later = [(6, {"deadweight": 99}), (7, {"gross": 1}), (8, {"volume": 99}), (9, {"mcr_low0": 99}), (10, {"fuel0": 9}), (11, {"aux_method": 3}),
          (12, {"ice": 3}), (13, {"speed_high": 6001}), (14, {"aux_low": 2001}), (15, {"trial_power": 1})]
 first = [(4, {"imo": 9074728}), (5, {"type": 8}), *later, (16, {"bytes": {132: 1}})]
-second = [(4, {"imo": 9074728}), (5, {"type": 9}), *later, (16, {"bytes": {188: 1}}), (18, {"lightweight": 99})]
-for ship, faults in ((S, first), (S2, second), (COASTER, second), (CRANES, second[:-1] + [(18, {"reach7": 0})])):
+second = [(4, {"imo": 9074728}), (5, {"type": 9}), *later, (16, {"bytes": {188: 1}}), (18, {"lightweight": 99}), (19, {"edition": 3})]
+for ship, faults in ((S, first), (S2, second), (COASTER, second), (CRANES, second[:-2] + [(18, {"reach7": 0}), (19, {"edition": 255})])):
     for i, (number, fault) in enumerate(faults):
         broken = {}
         for _, later_fault in faults[i:]:
@@ -471,7 +508,7 @@ for ship, faults in ((S, first), (S2, second), (COASTER, second), (CRANES, secon
     case(2, block(ship, **everything)[:511] + b"\xff")
     case(1, block(ship, **everything)[:511])
 case(16, block(S, lightweight=99))  # in layout 1 no figure stands there, right or wrong
-case(16, block(COASTER, bytes={141: 1}, draught=49))
+case(16, block(COASTER, bytes={143: 1}, draught=49))
 case(5, block(COASTER, layout=1, draught=49))
 
 # ── Writing ──────────────────────────────────────────────────────────────────────────────────────
@@ -497,7 +534,7 @@ def write(size, number, piece, wanted):
 
 for wanted, piece in cases:  # every block again: an accepted one is the file's afterwards, a refused one leaves it
     write(512, 0, piece, EMPTY if wanted else 0)
-for ship in (S, VEHICLE, TRIAL, DESIGN, BOXES, STATISTICAL, FOUR, S2, {**S2, "lightweight": 10000}, COASTER, CRANES):
+for ship in (S, VEHICLE, TRIAL, DESIGN, BOXES, STATISTICAL, FOUR, S2, {**S2, "lightweight": 10000}, COASTER, CRANES, AMENDED):
     for number in range(4):
         write(2048, number, block(ship), 0)
 for size, number, wanted in ((0, 0, 17), (511, 0, 17), (512, 0, 0), (512, 1, 17), (513, 0, 0), (1023, 1, 17), (1024, 1, 0), (1024, 2, 17),
@@ -511,21 +548,23 @@ write(2048, 1, bytes(512), EMPTY)
 write(0, 1, bytes(512), EMPTY)
 write(2048, 2 ** 64 - 1, block(S, ice=3), EMPTY)
 write(512, 1, block(COASTER, draught=49), EMPTY)
+write(512, 1, block(NEW, limit0=8000), EMPTY)
 
 # ── Lines of `fleet` ─────────────────────────────────────────────────────────────────────────────
 
-INDEX = (6000 * 180 * Fraction("3.114") + 400 * 200 * Fraction("3.206")) / (50000 * 14)  # of S: g/h over t × knots
+GRAMS = 6000 * 180 * Fraction("3.114") + 400 * 200 * Fraction("3.206")  # of S, an hour; she has 14 knots
 F_M = {0: 1, 1: Fraction("1.05"), 2: 1}  # none, IA Super or IA, IB or IC
 lines = []
 
 
 def line(piece, wanted):
-    """A refused piece, or ship S in one of the ice classes and with a lightweight: her index in millionths, rounded down and up. Type 8
-    isn't here: her last digits are free."""
+    """A refused piece, or ship S in one of the ice classes and editions, with a lightweight or as a new vehicle carrier: her index in
+    millionths, rounded down and up. Type 8 and an f_c other than 1 aren't here: their last digits are free."""
     answer = f"refused {refusal(piece)}"
     if refusal(piece) == 0:
-        f_i = 1 + Fraction("0.08") * int.from_bytes(piece[132:136], "little") / 50000
-        millionths = INDEX / f_i / F_M[piece[37]] * 10 ** 6
+        deadweight, lightweight = (int.from_bytes(piece[at:at + 4], "little") for at in (8, 132))
+        f_m = 1 if piece[141] == 1 else F_M[piece[37]]
+        millionths = GRAMS / (deadweight + Fraction("0.08") * lightweight) / 14 / f_m * 10 ** 6
         answer = f"9074729 {millionths // 1} {-(-millionths // 1)}"
     assert answer == wanted, (len(lines), wanted, answer)
     lines.append((piece, f"{len(lines)} {wanted}\n"))
@@ -545,6 +584,20 @@ for piece, wanted in ((block(S, layout=3), 3), (block(S, layout=258), 3), (block
                       (block(S, lightweight=10000), 16), (block(CRANES, reach7=0, bytes={143: 1}), 16), (block(S2, cranes=1, load0=300, reach0=280), 18),
                       (block(CRANES, reach7=0), 18), (block(COASTER, displacement=10547), 18), (block(CRANES, cranes=9), 18)):
     line(piece, f"refused {wanted}")
+# New ships: f_m in the amended edition alone, and no f_c of a light vehicle carrier, 3,619,600 g/h over 20,000 t x 14 knots
+plain, iced = "9074729 5170857 5170858", "9074729 4924625 4924626"
+for ice, wanted in ((0, (plain, plain, plain)), (1, (iced, plain, iced)), (2, (plain, plain, plain))):
+    for edition in range(3):
+        line(block(S2, ice=ice, edition=edition), wanted[edition])
+line(block(S2, ice=1, edition=1, lightweight=10000), "9074729 5089426 5089427")
+line(block(S2, ice=1, edition=2, lightweight=10000), "9074729 4847072 4847073")
+line(block(LIGHT, edition=1), "9074729 12927142 12927143")
+line(block(LIGHT, edition=2), "9074729 12927142 12927143")
+line(block(LIGHT, edition=2, ice=1), "9074729 12311564 12311565")
+for piece, wanted in ((block(S2, edition=3), 19), (block(S2, edition=255), 19), (block(NEW, limit0=8000), 19), (block(NEW, **no_main), 19),
+                      (block(S2, edition=2, **no_aux), 19), (block(TRIAL, layout=2, edition=1), 19), (block(STATISTICAL, layout=2, edition=2), 19),
+                      (block(S2, edition=3, lightweight=99), 18), (block(S2, edition=1, bytes={142: 1}), 16), (block(S, edition=1), 16)):
+    line(piece, f"refused {wanted}")
 
 # ── Stored ───────────────────────────────────────────────────────────────────────────────────────
 
@@ -555,7 +608,7 @@ MADE = {
     "fleet/stdout": "".join(text for _, text in lines).encode(),
 }
 given = {wanted for wanted, _ in cases}
-assert given == {*range(17), 18}, given
+assert given == {*range(17), 18, 19}, given
 if sys.argv[1:] == ["--check"]:
     wrong = [name for name, data in MADE.items() if open(os.path.join(ROOT, name), "rb").read() != data]
     print(f"tests/blocks.py: {len(cases)} blocks, {len(writes)} writes; " + ("not as stored: " + ", ".join(wrong) if wrong else "as stored"))

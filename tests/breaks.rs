@@ -99,7 +99,7 @@ fn break_zeros(block: &mut Block, random: &mut Random) {
     let unused = random.from(52 + 20 * count as u64, 507) as usize;
     let at = match get(block, LAYOUT) {
         1 => random.pick(&[49, 50, 51, 132, 507, unused, unused.min(131), 70 + engine, 71 + engine]),
-        _ => random.pick(&[49, 50, 51, 141, 142, 143, 188, 507, unused.max(188), unused.min(131), 70 + engine, 71 + engine]),
+        _ => random.pick(&[49, 50, 51, 142, 143, 188, 507, unused.max(188), unused.min(131), 70 + engine, 71 + engine]),
     };
     block[at] = random.from(1, 255) as u8;
 }
@@ -144,6 +144,20 @@ fn break_hull(block: &mut Block, random: &mut Random) {
     }
 }
 
+// An edition that there is none of, or the EEDI of a ship with a limiter, without a consumption or with a speed that isn't declared.
+fn break_edition(block: &mut Block, random: &mut Random) {
+    let engine = used(block, random);
+    let low = get(block, mcr(engine)[0]);
+    put(block, EDITION, random.from(1, 2));
+    match random.from(0, 2) {
+        0 => put(block, EDITION, random.pick(&[3, 127, 128, 255])),
+        // The other methods break the rule by themselves; a limiter would come between their ship and her trial.
+        _ if get(block, METHOD) != 1 => {}
+        1 => put(block, limit(engine), random.from(100, low)),
+        _ => put_consumption(block, random.pick(&[4, engine]), [0, 0], 0, 3),
+    }
+}
+
 fn break_type(block: &mut Block, random: &mut Random) {
     match (get(block, LAYOUT), get(block, TYPE)) {
         (1, _) => put(block, TYPE, random.pick(&[0, 8, 255])),
@@ -152,7 +166,7 @@ fn break_type(block: &mut Block, random: &mut Random) {
     }
 }
 
-// Breaks rule 3 to 16 or 18; rule 2 is broken after sealing, rule 1 by cutting the file.
+// Breaks rule 3 to 16, 18 or 19; rule 2 is broken after sealing, rule 1 by cutting the file.
 fn break_rule(block: &mut Block, random: &mut Random, rule: u64, no_layout: &[u64]) {
     let imo = get(block, IMO);
     match rule {
@@ -168,14 +182,15 @@ fn break_rule(block: &mut Block, random: &mut Random, rule: u64, no_layout: &[u6
         14 => break_range(block, random),
         15 => break_trial(block, random),
         16 => break_zeros(block, random),
-        _ => random.pick(&[break_lightweight, break_cranes, break_hull])(block, random),
+        18 => random.pick(&[break_lightweight, break_cranes, break_hull])(block, random),
+        _ => break_edition(block, random),
     }
 }
 
 // Ships of a layout that break one rule, and ships that break two: the first one's number is the answer. What layout 1 could
-// break of rule 18, rule 16 refuses.
+// break of rules 18 and 19, rule 16 refuses.
 pub fn broken(random: &mut Random, each: usize, layout: u64, no_layout: &[u64]) -> Vec<(Block, u8)> {
-    let rules: Vec<u64> = (2..17).chain(if layout == 1 { None } else { Some(18) }).collect();
+    let rules: Vec<u64> = (2..17).chain(if layout == 1 { 0..0 } else { 18..20 }).collect();
     let mut all = Vec::new();
     for (place, first) in rules.iter().enumerate() {
         for second in &rules[place..] {

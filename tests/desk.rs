@@ -58,6 +58,8 @@ pub struct Ship {
     pub crane: [[u16; 2]; 8],
     // Length, breadth and draught, in hundredths of a metre.
     pub hull: [u32; 3],
+    // 0 EEXI, 1 EEDI under MEPC.308(73) alone, 2 EEDI under it as amended by MEPC.322(74).
+    pub edition: u8,
 }
 
 fn word(block: &[u8], at: usize) -> u32 {
@@ -104,6 +106,7 @@ pub fn fields(block: &[u8]) -> Ship {
             crane_at(144), crane_at(148), crane_at(152), crane_at(156), crane_at(160), crane_at(164), crane_at(168), crane_at(172),
         ],
         hull: [word(block, 176), word(block, 180), word(block, 184)],
+        edition: block[141],
     }
 }
 
@@ -201,9 +204,13 @@ impl Ship {
             _ => false,
         }
     }
+    // Whether f_c is other than 1. That of vehicle carriers is the EEXI's alone, that of bulk carriers is in every edition.
+    pub fn has_cargo_factor(&self) -> bool {
+        self.has_light_cargo() && (self.kind != 7 || self.edition == 0)
+    }
     fn light_cargo_factor(&self) -> f64 {
         match self.kind {
-            _ if !self.has_light_cargo() => 1.0,
+            _ if !self.has_cargo_factor() => 1.0,
             1 => (self.deadweight as f64 / self.cargo_volume as f64).powf(-0.15),
             _ => (self.deadweight as f64 / self.gross_tonnage as f64 / 0.35).powf(-0.8),
         }
@@ -259,7 +266,7 @@ fn rest_is_zero(block: &[u8], ship: &Ship) -> bool {
     let zero = |bytes: &[u8]| bytes.iter().fold(0, |all, byte| all | byte) == 0;
     zero(&block[49..52])
         && zero(&block[52 + 20 * engines..132])
-        && zero(&block[141..144])
+        && zero(&block[142..144])
         && zero(&block[after..508])
         && (0..engines).all(|i| zero(&block[70 + 20 * i..72 + 20 * i]))
 }
@@ -288,6 +295,16 @@ fn hull_is_right(ship: &Ship) -> bool {
         && 1_000_000 * ship.displacement as u64 <= ship.box_volume()
 }
 
+// An EEDI has a declared speed and no limiter, and every consumption has a report or a maker behind it.
+fn edition_is_right(ship: &Ship) -> bool {
+    let as_built = |engine: &Engine| engine.limit == 0 && engine.source != 3;
+    match ship.edition {
+        0 => true,
+        1 | 2 => ship.method == 1 && as_built(&ship.auxiliary) && ship.used().iter().all(as_built),
+        _ => false,
+    }
+}
+
 // The first rule of the table that the block breaks, or the ship.
 pub fn read(block: &[u8]) -> Result<Ship, u8> {
     let keep = |right: bool, number: u8| if right { Ok(()) } else { Err(number) };
@@ -309,6 +326,7 @@ pub fn read(block: &[u8]) -> Result<Ship, u8> {
     keep(trial_is_right(&ship), 15)?;
     keep(rest_is_zero(block, &ship), 16)?;
     keep(lightweight_is_right(&ship) && cranes_are_right(&ship) && hull_is_right(&ship), 18)?;
+    keep(edition_is_right(&ship), 19)?;
     Ok(ship)
 }
 
@@ -319,8 +337,9 @@ fn emissions(ship: &Ship, end: usize) -> (u64, u64) {
 }
 
 // f_m in hundredths: IA Super and IA, class 1, have 1.05; IB and IC, class 2, have 1 as a ship without a class has.
+// MEPC.308(73) alone, edition 1, has no f_m.
 fn ice_factor(ship: &Ship) -> u64 {
-    if ship.ice == 1 { 105 } else { 100 }
+    if ship.ice == 1 && ship.edition != 1 { 105 } else { 100 }
 }
 
 // The index in millionths as a fraction; `end` 0 is the most favourable ship, which has the high speed.
@@ -398,7 +417,7 @@ pub fn answer(block: &[u8]) -> Answer {
         Err(number) => return Answer::Refused(number),
     };
     let imo = ship.imo;
-    if ship.kind != 8 && ship.method == 1 && !ship.has_light_cargo() {
+    if ship.kind != 8 && ship.method == 1 && !ship.has_cargo_factor() {
         let (lower, _) = divide(fraction(&ship, 0));
         let (whole, left) = divide(fraction(&ship, 1));
         return Answer::Exact { imo, lower, upper: whole + left as u64 };

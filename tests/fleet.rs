@@ -7,6 +7,8 @@ mod breaks;
 mod desk;
 #[path = "edges.rs"]
 mod edges;
+#[path = "editions.rs"]
+mod editions;
 #[path = "hold.rs"]
 mod hold;
 #[path = "hulls.rs"]
@@ -20,6 +22,7 @@ mod slips;
 
 use desk::{Answer, BLOCK, MOST_BLOCKS};
 use edges::*;
+use editions::*;
 use hulls::*;
 use ships::*;
 use std::process::exit;
@@ -101,7 +104,7 @@ fn figures(program: &[String]) {
     if text != "0 9074729 5170857 5170858\n1 refused 2\n" {
         fail(&format!("the document's example printed\n{}", text));
     }
-    let blocks = [
+    let mut blocks = vec![
         (like_s(&|block| put(block, ICE, 1)), "9074729 4924625 4924626"),
         (like_s(&|block| put(block, ICE, 2)), "9074729 5170857 5170858"),
         (like_s(&|block| put(block, ICE, 3)), "refused 12"),
@@ -121,6 +124,9 @@ fn figures(program: &[String]) {
         (like_s(&|block| put(block, LIGHTWEIGHT, 10_000)), "refused 16"),
         (like_s(&|block| put(block, LAYOUT, 3)), "refused 3"),
     ];
+    blocks.extend(edition_figures());
+    blocks.extend(edition_refusals());
+    blocks.extend(vehicle_carriers());
     let mut bytes: Vec<u8> = blocks.iter().flat_map(|(block, _)| block.to_vec()).collect();
     bytes.extend(&ship_s()[..511]);
     let mut right: String = blocks.iter().enumerate().map(|(number, (_, line))| format!("{} {}\n", number, line)).collect();
@@ -131,6 +137,101 @@ fn figures(program: &[String]) {
     }
     trial_figure(program);
     coaster_figures(program);
+    edition_enclosures(program);
+}
+
+// S as a new ship: 6,000 x 3.114 x 180 + 400 x 3.206 x 200 = 3,619,600 g/h over 50,000 t x 14 knots is 5.170857 g, with f_m 1.05
+// 4.924625 g. Ice class 1 (IA) has it in editions 0 (EEXI) and 2 (EEDI as amended), class 2 (IC) in none.
+// Her ranges: 3,526,180 / 700,000 = 5.0374 g and 3,619,600 / 675,000 = 5.362370 g, with f_m 4.797523 and 5.107019 g.
+fn edition_figures() -> Vec<(Block, &'static str)> {
+    let (plain, iced) = ("9074729 5170857 5170858", "9074729 4924625 4924626");
+    let s = |class: u64, edition: u64| in_edition(like_s(&|block| put(block, ICE, class)), edition);
+    let mut ranged = s_with_ranges();
+    put(&mut ranged, ICE, 1);
+    let mut figures = vec![
+        (in_edition(ranged, 0), "9074729 4797523 5107020"),
+        (in_edition(ranged, 1), "9074729 5037400 5362371"),
+        (in_edition(ranged, 2), "9074729 4797523 5107020"),
+        // f_i stays: 5,170,857.142857 over 1.016.
+        (in_edition(s_in_layout_2(10_000), 1), "9074729 5089426 5089427"),
+        (in_edition(s_in_layout_2(10_000), 2), "9074729 5089426 5089427"),
+    ];
+    for (class, lines) in [[plain, plain, plain], [iced, plain, iced], [plain, plain, plain]].iter().enumerate() {
+        figures.extend((0..3).map(|edition| (s(class as u64, edition as u64), lines[edition])));
+    }
+    figures
+}
+
+// What no EEDI has, beside an EEXI that has it. A limiter of 8,000 kW leaves P_ME at 6,000, which is below 83 % of it. Auxiliaries
+// without a source have 400 x 3.114 x 215 = 267,804 g/h, and 3,630,924 / 700,000 is 5.187034 g.
+fn edition_refusals() -> Vec<(Block, &'static str)> {
+    let limited = like_s(&|block| put(block, limit(0), 8_000));
+    let without = |engine: usize| like_s(&|block| put_consumption(block, engine, [0, 0], 0, 3));
+    let design = like_s(&|block| {
+        for (field, value) in &[(METHOD, 3), (TRIAL_POWER, 6_000), (TRIAL_DEADWEIGHT, 40_000)] {
+            put(block, *field, *value);
+        }
+    });
+    let statistical = like_s(&|block| {
+        put(block, METHOD, 4);
+        put_both(block, SPEED, 0);
+    });
+    let mut figures = vec![
+        (in_edition(limited, 0), "9074729 5170857 5170858"),
+        (in_edition(without(0), 0), "9074729 5437771 5437772"),
+        (in_edition(without(4), 0), "9074729 5187034 5187035"),
+        // In layout 1 no figure stands there.
+        (like_s(&|block| put(block, EDITION, 1)), "refused 16"),
+        (like_s(&|block| put(block, EDITION, 255)), "refused 16"),
+    ];
+    for edition in [3, 127, 128, 255].iter() {
+        figures.push((in_edition(ship_s(), *edition), "refused 19"));
+    }
+    for edition in 1..4 {
+        for ship in [limited, without(0), without(4), fifteen_knots(), design, statistical].iter() {
+            figures.push((in_edition(*ship, edition), "refused 19"));
+        }
+        figures.push((in_edition(like_s(&|block| put(block, limit(1), 8_000)), edition), "refused 16"));
+        figures.push((in_edition(like_s(&|block| put(block, Field(142, 1), 1)), edition), "refused 16"));
+        figures.push((in_edition(like_s(&|block| put(block, Field(143, 1), 1)), edition), "refused 16"));
+        figures.push((in_edition(s_in_layout_2(99), edition), "refused 18"));
+    }
+    figures
+}
+
+// The vehicle carrier emits 9,000 x 3.114 x 180 = 5,044,680 g/h by her main engine and 550 x 3.206 x 200 = 352,660 by her auxiliaries,
+// whose power is 2.5 % of 12,000 kW and 250: 5,397,340 over 20,000 t x 18 knots is 14.9926111 g. That is her EEDI, for f_c is 1 there;
+// with f_m it is 14.2786772 g.
+fn vehicle_carriers() -> Vec<(Block, &'static str)> {
+    let iced = |edition: u64| {
+        let mut block = vehicle_carrier(edition);
+        put(&mut block, ICE, 1);
+        sealed(block)
+    };
+    vec![
+        (vehicle_carrier(1), "9074729 14992611 14992612"),
+        (vehicle_carrier(2), "9074729 14992611 14992612"),
+        (iced(1), "9074729 14992611 14992612"),
+        (iced(2), "9074729 14278677 14278678"),
+    ]
+}
+
+// A third over 0.35 is 1 / 1.05, so the vehicle carrier's f_c is 1.05^0.8 = 1.0398039 in the EEXI: 14.9926111 over it is 14.4186911 g.
+// S with 100,000 m³ has R 0.5 and f_c 0.5^-0.15 = 1.1095695 in every edition: 5.1708571 over it is 4.6602374 g.
+// The coaster at 14 knots has f_j and f_l in every edition: 20.7327835 g, with f_m 19.7455081 g, and with cranes 20.0814154 g.
+fn edition_enclosures(program: &[String]) {
+    encloses(program, "the vehicle carrier's EEXI", vehicle_carrier(0), 14_418_691, 14_418_692);
+    let mut iced = coaster(1_400);
+    put(&mut iced, ICE, 1);
+    let mut lifting = coaster(1_400);
+    put_cranes(&mut lifting, &[[400, 250], [600, 200]]);
+    for edition in 0..3 {
+        let light = like_s(&|block| put(block, CARGO_VOLUME, 100_000));
+        encloses(program, "S with light cargo", in_edition(light, edition), 4_660_237, 4_660_238);
+        encloses(program, "the coaster with cranes in an edition", in_edition(lifting, edition), 20_081_415, 20_081_416);
+        let (floor, ceiling) = if edition == 1 { (20_732_783, 20_732_784) } else { (19_745_508, 19_745_509) };
+        encloses(program, "the coaster in class IA", in_edition(iced, edition), floor, ceiling);
+    }
 }
 
 // 6,750 x 3.114 x 180 + 450 x 3.206 x 200 = 4,072,050 g/h; over 50,000 t x 15 knots that is 5.4294 g.
@@ -190,6 +291,9 @@ fn blocks(random: &mut Random) -> Vec<Block> {
     for each in 0..22_500 {
         all.push(draw(random, 8, [1, 2, 4][each % 3], each % 4 == 0));
     }
+    for each in 0..22_400 {
+        all.push(draw_new(random, 1 + each % 8, 1 + each / 8 % 2, each % 3 == 0));
+    }
     at_field_ends(random, &mut all);
     at_imo_ends(random, &mut all);
     for _ in 0..3 {
@@ -210,13 +314,16 @@ fn blocks(random: &mut Random) -> Vec<Block> {
     at_crane_ends(random, &mut all);
     at_froude_cap(random, &mut all);
     at_hull_factor_cap(random, &mut all);
+    at_older_thresholds(random, &mut all);
+    at_whole_light_index(random, &mut all);
     damaged(random, 15_000, &mut all);
     random_bytes(random, 10_000, &mut all);
-    let mut broken = breaks::broken(random, 150, 1, &NO_LAYOUT);
-    broken.extend(breaks::broken(random, 100, 2, &NO_LAYOUT));
-    for (block, rule) in broken {
-        if desk::answer(&block) != Answer::Refused(rule) {
-            fail(&format!("the reference gives {:?} to a ship that breaks rule {} first", desk::answer(&block), rule));
+    let mut known = breaks::broken(random, 150, 1, &NO_LAYOUT);
+    known.extend(breaks::broken(random, 100, 2, &NO_LAYOUT));
+    known.extend(at_rule_19(random));
+    for (block, rule) in known {
+        if desk::read(&block).err().unwrap_or(0) != rule {
+            fail(&format!("the reference gives {:?} to a ship that breaks rule {} first, 0 for none", desk::answer(&block), rule));
         }
         all.push(block);
     }
@@ -228,19 +335,80 @@ fn blocks(random: &mut Random) -> Vec<Block> {
 
 #[derive(Default)]
 struct Count {
+    // The EEXI by type and method, and how many of these with an f_c other than 1.
     accepted: [[u64; 5]; 9],
     light: [[u64; 5]; 9],
-    // Layout 2 by type; those with f_i by whether they are exact.
+    // The EEXI in layout 2 by type; those with f_i by whether they are exact; those with a limiter, without a source and by methods 2
+    // to 4, which no EEDI has.
     newer: [u64; 9],
     structural: [u64; 2],
+    no_eedi: [u64; 3],
     coasters: Coasters,
+    new_ships: NewShips,
     ice: [u64; 3],
     whole: u64,
     exact: u64,
     near: u64,
     exact_ranged: u64,
     near_ranged: u64,
-    refused: [u64; 19],
+    refused: [u64; 20],
+}
+
+// EEDIs, by what changes them; MEPC.308(73) alone stands before the amended edition.
+#[derive(Default)]
+struct NewShips {
+    accepted: [[u64; 9]; 2],
+    ice: [[u64; 3]; 2],
+    // By type, below 0.55 and 0.35: a bulk carrier then has an f_c, a vehicle carrier has none.
+    light: [[u64; 9]; 2],
+    structural: u64,
+    with_cranes: u64,
+    ranged: u64,
+    whole: u64,
+}
+
+impl NewShips {
+    fn add(&mut self, ship: &desk::Ship, answer: Answer) {
+        let edition = ship.edition as usize - 1;
+        self.accepted[edition][ship.kind as usize] += 1;
+        self.ice[edition][ship.ice as usize] += 1;
+        self.light[edition][ship.kind as usize] += ship.has_light_cargo() as u64;
+        self.structural += (ship.lightweight > 0) as u64;
+        self.with_cranes += (ship.cranes > 0) as u64;
+        self.ranged += ship.has_ranges() as u64;
+        self.whole += matches!(answer, Answer::Exact { lower, upper, .. } if lower == upper) as u64;
+    }
+    // What is counted, how many there are and how many there have to be.
+    fn wants(&self) -> Vec<(String, u64, u64)> {
+        let mut wants = vec![
+            ("EEDI".to_string(), self.accepted.iter().flatten().sum(), 20_000),
+            ("EEDI with f_i".to_string(), self.structural, 2_000),
+            ("EEDI with cranes".to_string(), self.with_cranes, 2_000),
+            ("EEDI, ranged".to_string(), self.ranged, 3_000),
+            ("EEDI, exact and whole".to_string(), self.whole, 300),
+        ];
+        for edition in 0..2 {
+            let of = |what: String| format!("EEDI {}, {}", edition + 1, what);
+            wants.extend((1..9).map(|kind| (of(format!("type {}", kind)), self.accepted[edition][kind], 1_000)));
+            wants.extend((0..3).map(|class| (of(format!("ice class {}", class)), self.ice[edition][class], 2_000)));
+            for kind in [1, 7].iter() {
+                let (light, all) = (self.light[edition][*kind], self.accepted[edition][*kind]);
+                wants.push((of(format!("light cargo, type {}", kind)), light, 300));
+                wants.push((of(format!("no light cargo, type {}", kind)), all - light, 300));
+            }
+        }
+        wants
+    }
+    fn print(&self) {
+        for edition in 0..2 {
+            let (ice, light) = (self.ice[edition], [self.light[edition][1], self.light[edition][7]]);
+            println!("fleet: EEDI {} accepted by types 1-8: {:?}", edition + 1, &self.accepted[edition][1..]);
+            println!("fleet: EEDI {} in ice classes 0, 1 and 2: {:?}; light bulk and vehicle carriers {:?}", edition + 1, ice, light);
+        }
+        let NewShips { accepted, ranged, structural, with_cranes, whole, .. } = self;
+        let all: u64 = accepted.iter().flatten().sum();
+        println!("fleet: EEDI {}, of them with ranges {}, with f_i {}, with cranes {}, whole {}", all, ranged, structural, with_cranes, whole);
+    }
 }
 
 // General cargo ships, by what changes their index.
@@ -274,13 +442,12 @@ impl Count {
             Answer::Refused(rule) => return self.refused[rule as usize] += 1,
             _ => desk::fields(block),
         };
-        let (kind, method) = (ship.kind as usize, ship.method as usize);
-        self.accepted[kind][method] += 1;
-        self.light[kind][method] += ship.has_light_cargo() as u64;
         self.ice[ship.ice as usize] += 1;
-        self.newer[kind] += (ship.layout == 2) as u64;
-        self.structural[matches!(answer, Answer::Exact { .. }) as usize] += (ship.lightweight > 0) as u64;
-        if kind == 8 {
+        match ship.edition {
+            0 => self.add_eexi(&ship, answer),
+            _ => self.new_ships.add(&ship, answer),
+        }
+        if ship.kind == 8 {
             self.coasters.add(&ship);
         }
         if let Answer::Exact { lower, upper, .. } = answer {
@@ -291,6 +458,19 @@ impl Count {
             (Answer::Exact { .. }, false) => self.exact += 1,
             (_, true) => self.near_ranged += 1,
             (_, false) => self.near += 1,
+        }
+    }
+    fn add_eexi(&mut self, ship: &desk::Ship, answer: Answer) {
+        let (kind, method) = (ship.kind as usize, ship.method as usize);
+        self.accepted[kind][method] += 1;
+        self.light[kind][method] += ship.has_light_cargo() as u64;
+        if ship.layout == 2 {
+            let used = &ship.engine[..ship.engines as usize];
+            self.newer[kind] += 1;
+            self.structural[matches!(answer, Answer::Exact { .. }) as usize] += (ship.lightweight > 0) as u64;
+            self.no_eedi[0] += used.iter().any(|engine| engine.limit > 0) as u64;
+            self.no_eedi[1] += used.iter().chain(Some(&ship.auxiliary)).any(|engine| engine.source == 3) as u64;
+            self.no_eedi[2] += (method > 1) as u64;
         }
     }
     // A kind that hardly occurs would make the test idle.
@@ -307,12 +487,16 @@ impl Count {
         for class in 0..3 {
             want(format!("ice class {}", class), self.ice[class], 15_000);
         }
-        for rule in (1..17).chain(18..19) {
+        for rule in (1..17).chain(18..20) {
             want(format!("refusal {}", rule), self.refused[rule], 500);
         }
         for kind in 1..9 {
-            want(format!("layout 2, type {}", kind), self.newer[kind], if kind == 8 { 20_000 } else { 200 });
+            want(format!("EEXI in layout 2, type {}", kind), self.newer[kind], if kind == 8 { 20_000 } else { 200 });
         }
+        for (way, what) in ["with a limiter", "without a source", "by methods 2-4"].iter().enumerate() {
+            want(format!("EEXI in layout 2, {}", what), self.no_eedi[way], 5_000);
+        }
+        self.new_ships.wants().into_iter().for_each(|(what, count, least)| want(what, count, least));
         want("f_i".to_string(), self.structural[0] + self.structural[1], 10_000);
         want("f_i, exact".to_string(), self.structural[1], 2_000);
         want("general cargo, ranged".to_string(), self.coasters.ranged, 5_000);
@@ -330,17 +514,19 @@ impl Count {
     fn print(&self) {
         for kind in 1..9 {
             let by_method: Vec<String> = (1..5).map(|method| self.accepted[kind][method].to_string()).collect();
-            println!("fleet: type {} accepted by methods 1-4: {}", kind, by_method.join(" "));
+            println!("fleet: EEXI of type {} accepted by methods 1-4: {}", kind, by_method.join(" "));
         }
         let light: u64 = self.light.iter().flatten().sum();
         println!("fleet: exact {} and ranged {}, {} of them whole", self.exact, self.exact_ranged, self.whole);
         println!("fleet: near {} and ranged {}; light cargo {}", self.near, self.near_ranged, light);
         println!("fleet: ice classes 0, 1 and 2 accepted: {:?}", self.ice);
-        println!("fleet: layout 2 accepted by types 1-8: {:?}; with f_i {:?}, the latter exact", &self.newer[1..], self.structural);
+        println!("fleet: EEXI in layout 2 by types 1-8: {:?}; with f_i {:?}, the latter exact", &self.newer[1..], self.structural);
+        println!("fleet: EEXI in layout 2 with a limiter, without a source, by methods 2-4: {:?}", self.no_eedi);
+        self.new_ships.print();
         let Coasters { ranged, with_cranes, caps, near_caps } = &self.coasters;
         println!("fleet: general cargo with ranges {}, with cranes {}", ranged, with_cranes);
         println!("fleet: Fn up to 0.6 and above, each with f_j up to 1 and above: {:?}; close to these caps: {:?}", caps, near_caps);
-        let refused: Vec<String> = (1..17).chain(18..19).map(|rule| format!("{}: {}", rule, self.refused[rule])).collect();
+        let refused: Vec<String> = (1..17).chain(18..20).map(|rule| format!("{}: {}", rule, self.refused[rule])).collect();
         println!("fleet: refused by {}", refused.join(", "));
     }
 }
@@ -421,37 +607,60 @@ fn same_elsewhere(program: &[String], all: &[Block], lines: &[String], count: &m
     wrong
 }
 
-// So many accepted ships of each of these kinds.
-fn accepted(all: &[Block], kinds: Vec<(u64, u64)>, layouts: &[u64], each: usize) -> Vec<Block> {
+// So many accepted ships of each of these kinds for which that holds.
+fn accepted(all: &[Block], kinds: Vec<(u64, u64)>, fits: fn(&desk::Ship) -> bool, each: usize) -> Vec<Block> {
     let of = |kind: (u64, u64)| {
-        let fits = move |block: &&Block| (get(block, TYPE), get(block, METHOD)) == kind && layouts.contains(&get(block, LAYOUT));
-        all.iter().filter(fits).filter(|block| desk::read(&block[..]).is_ok()).take(each)
+        let right = move |block: &&Block| desk::read(&block[..]).map_or(false, |ship| fits(&ship));
+        all.iter().filter(move |block| (get(block, TYPE), get(block, METHOD)) == kind).filter(right).take(each)
     };
     kinds.into_iter().flat_map(of).cloned().collect()
 }
 
-// With either number in that field the same ship gets the very same words.
-fn same_words(program: &[String], name: &str, ships: &[Block], field: Field, numbers: [u64; 2], count: &mut Count) -> usize {
-    let mut lines_with = |number: u64| {
+// With each of these numbers in that field the same ship gets the very same words. The ships are counted already.
+fn same_words(program: &[String], name: &str, ships: &[Block], field: Field, numbers: &[u64]) -> usize {
+    let lines_with = |number: u64| {
         let mut blocks = ships.to_vec();
         blocks.iter_mut().for_each(|block| { put(block, field, number); seal(block) });
-        run(program, &format!("{} {}", name, number), &bytes_of(&blocks), How::Pipe, count)
+        run(program, &format!("{} {}", name, number), &bytes_of(&blocks), How::Pipe, &mut Count::default())
     };
-    let ((right, wrong), (lines, faults)) = (lines_with(numbers[0]), lines_with(numbers[1]));
-    if let Some((right, line)) = right.iter().zip(&lines).find(|(right, line)| right != line) {
-        fail(&format!("in {} {} a ship is answered '{}', in {} '{}'", name, numbers[1], line, numbers[0], right));
+    let (right, mut wrong) = lines_with(numbers[0]);
+    for number in &numbers[1..] {
+        let (lines, faults) = lines_with(*number);
+        if let Some((right, line)) = right.iter().zip(&lines).find(|(right, line)| right != line) {
+            fail(&format!("in {} {} a ship is answered '{}', in {} '{}'", name, number, line, numbers[0], right));
+        }
+        wrong += faults;
     }
-    wrong + faults
+    wrong
 }
 
 // IB and IC (2) have f_m 1, as a ship without a class (0) has.
-fn same_in_class_2(program: &[String], all: &[Block], count: &mut Count) -> usize {
-    same_words(program, "ice class", &accepted(all, kinds(), &[1, 2], 100), ICE, [0, 2], count)
+fn same_in_class_2(program: &[String], all: &[Block]) -> usize {
+    same_words(program, "ice class", &accepted(all, kinds(), |_| true, 100), ICE, &[0, 2])
 }
 
 // Types 1 to 7 in layout 2 with no newer figure are what they are in layout 1.
-fn same_in_layout_2(program: &[String], all: &[Block], count: &mut Count) -> usize {
-    same_words(program, "layout", &accepted(all, older_kinds(), &[1], 300), LAYOUT, [1, 2], count)
+fn same_in_layout_2(program: &[String], all: &[Block]) -> usize {
+    same_words(program, "layout", &accepted(all, older_kinds(), |ship| ship.layout == 1, 300), LAYOUT, &[1, 2])
+}
+
+// So many new ships of each type for which that holds.
+fn new_ships(all: &[Block], fits: fn(&desk::Ship) -> bool, each: usize) -> Vec<Block> {
+    accepted(all, (1..9).map(|kind| (kind, 1)).collect(), fits, each)
+}
+
+// Under MEPC.308(73) alone no ice class has an f_m.
+fn same_in_every_class(program: &[String], all: &[Block]) -> usize {
+    let ships = new_ships(all, |ship| ship.edition == 1, 300);
+    same_words(program, "EEDI 1, ice class", &ships, ICE, &[0, 1, 2])
+}
+
+// Only f_m and the vehicle carriers' f_c tell the editions apart: a ship without either has the same words in all three, and one with
+// f_m in the two that have it.
+fn same_in_every_edition(program: &[String], all: &[Block]) -> usize {
+    let plain = new_ships(all, |ship| ship.edition > 0 && ship.ice != 1 && (ship.kind != 7 || !ship.has_light_cargo()), 300);
+    let iced = new_ships(all, |ship| ship.edition > 0 && ship.ice == 1 && (ship.kind != 7 || !ship.has_light_cargo()), 100);
+    same_words(program, "edition", &plain, EDITION, &[0, 1, 2]) + same_words(program, "class IA, edition", &iced, EDITION, &[0, 2])
 }
 
 // A last piece of each length from 1 to 511, alone or after ship S; two runs at a time.
@@ -526,8 +735,10 @@ fn main() {
     let (lines, mut wrong) = all_lines(&program, &all, &mut count);
     if wrong == 0 {
         wrong += same_elsewhere(&program, &all, &lines, &mut count);
-        wrong += same_in_class_2(&program, &all, &mut count);
-        wrong += same_in_layout_2(&program, &all, &mut count);
+        wrong += same_in_class_2(&program, &all);
+        wrong += same_in_layout_2(&program, &all);
+        wrong += same_in_every_class(&program, &all);
+        wrong += same_in_every_edition(&program, &all);
     }
     reader_gone(&program, &all);
     let short = tails(&program);

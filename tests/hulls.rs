@@ -3,7 +3,7 @@
 use ships::*;
 
 fn newer_fields() -> Vec<Field> {
-    let mut all = vec![LIGHTWEIGHT, DISPLACEMENT, CRANES, Field(141, 1), Field(142, 1), Field(143, 1)];
+    let mut all = vec![LIGHTWEIGHT, DISPLACEMENT, CRANES, EDITION, Field(142, 1), Field(143, 1)];
     all.extend(&HULL);
     all.extend(&[Field(188, 4), Field(504, 4)]);
     (0..8).for_each(|number| all.extend(&crane(number)));

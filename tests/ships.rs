@@ -1,4 +1,5 @@
-// Blocks for the tests and the benchmark: both layouts, ship S, a coaster, and ships drawn by chance that no rule refuses.
+// Blocks for the tests and the benchmark: both layouts, ship S, a coaster, a vehicle carrier, and ships drawn by chance that no rule
+// refuses.
 // A block is built byte by byte from the document's layout; nothing here knows how the reference reads it.
 #![allow(dead_code)]
 
@@ -50,10 +51,12 @@ pub const AUX_SOURCE: Field = Field(39, 1);
 pub const TABLE_POWER: Field = Field(40, 4);
 pub const AUX_SFC: [Field; 2] = [Field(44, 2), Field(46, 2)];
 pub const AUX_FUEL: Field = Field(48, 1);
-// Layout 2 alone: lightweight, displacement volume, number of cranes; length, breadth and draught with the ends they may have.
+// Layout 2 alone: lightweight, displacement volume, number of cranes, edition (0 EEXI, 1 and 2 EEDI); length, breadth and draught with
+// the ends they may have.
 pub const LIGHTWEIGHT: Field = Field(132, 4);
 pub const DISPLACEMENT: Field = Field(136, 4);
 pub const CRANES: Field = Field(140, 1);
+pub const EDITION: Field = Field(141, 1);
 pub const HULL: [Field; 3] = [Field(176, 4), Field(180, 4), Field(184, 4)];
 pub const HULL_ENDS: [(u64, u64); 3] = [(1_000, 50_000), (200, 10_000), (50, 4_000)];
 
@@ -140,6 +143,25 @@ pub fn coaster(speed: u64) -> Block {
     put_both(&mut block, SPEED, speed);
     put_both(&mut block, mcr(0), 4_000);
     sealed(block)
+}
+
+// The ship in layout 2 and that edition.
+pub fn in_edition(mut block: Block, edition: u64) -> Block {
+    put(&mut block, LAYOUT, 2);
+    put(&mut block, EDITION, edition);
+    sealed(block)
+}
+
+// A vehicle carrier in layout 2 that can be followed by hand, in that edition: 20,000 t to a gross tonnage of 60,000, a third and so
+// below 0.35, one engine of 12,000 kW with the consumptions of S, and 18.00 knots declared.
+pub fn vehicle_carrier(edition: u64) -> Block {
+    let mut block = ship_s();
+    for (field, value) in &[(TYPE, 7), (DEADWEIGHT, 20_000), (GROSS_TONNAGE, 60_000), (CARGO_VOLUME, 0)] {
+        put(&mut block, *field, *value);
+    }
+    put_both(&mut block, SPEED, 1_800);
+    put_both(&mut block, mcr(0), 12_000);
+    in_edition(block, edition)
 }
 
 // So many cranes, each a load and a reach in tenths, and no figure in the other entries.
@@ -324,11 +346,32 @@ pub fn draw_layout_2(random: &mut Random, kind: u64, method: u64, ranged: bool) 
     sealed(block)
 }
 
-// A ship of any kind in that layout.
+// A declared ship as a new one in that edition: no limiter, and a report or a maker behind every consumption.
+pub fn as_new(ship: &Block, random: &mut Random, edition: u64) -> Block {
+    let mut block = *ship;
+    let engines = get(&block, ENGINES).min(4) as usize;
+    (0..engines).for_each(|engine| put(&mut block, limit(engine), 0));
+    for engine in (0..engines).chain(4..5).filter(|engine| get(ship, consumption(*engine).2) == 3) {
+        let sfc = random.from(500, 4_000);
+        put_consumption(&mut block, engine, [sfc, sfc], random.from(1, 8), random.from(1, 2));
+    }
+    in_edition(block, edition)
+}
+
+pub fn draw_new(random: &mut Random, kind: u64, edition: u64, ranged: bool) -> Block {
+    let ship = draw_layout_2(random, kind, 1, ranged);
+    as_new(&ship, random, edition)
+}
+
+// A ship of any kind in that layout; in layout 2 every second one with a declared speed is a new one.
 pub fn draw_any(random: &mut Random, layout: u64) -> Block {
     let (kind, method) = random.pick(&if layout == 1 { older_kinds() } else { kinds() });
     let ranged = random.0 & 1 == 0;
-    if layout == 1 { draw(random, kind, method, ranged) } else { draw_layout_2(random, kind, method, ranged) }
+    if layout == 1 {
+        return draw(random, kind, method, ranged);
+    }
+    let edition = if method == 1 { random.pick(&[0, 0, 1, 2]) } else { 0 };
+    if edition == 0 { draw_layout_2(random, kind, method, ranged) } else { draw_new(random, kind, edition, ranged) }
 }
 
 // Every type with every speed method it may have.

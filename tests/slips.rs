@@ -1,5 +1,5 @@
-// The coaster and ship S under the common structural rules as a desk would have them that reads one rule wrongly: each such line must
-// be caught, and the line of the right reading must not.
+// The coaster, ship S under the common structural rules and new ships as a desk would have them that reads one rule wrongly: each such
+// line must be caught, and the line of the right reading must not.
 use desk;
 use hold;
 use ships::*;
@@ -96,21 +96,187 @@ fn bulk_carrier() -> (Block, f64, Vec<(&'static str, f64)>) {
     (sealed(block), index(1.016), wrong)
 }
 
+// Of S: 3,363,120 g/h by her main engine at 6,000 kW and 256,480 by her auxiliaries, over 50,000 t x 14 knots.
+const S_INDEX: f64 = 1e6 * 3_619_600.0 / 700_000.0;
+
+fn s_with(figures: &[(Field, u64)]) -> Block {
+    let mut block = ship_s();
+    figures.iter().for_each(|(field, value)| put(&mut block, *field, *value));
+    sealed(block)
+}
+
+// The index of S with that P_ME in kW.
+fn s_at(kilowatts: f64) -> f64 {
+    1e6 * (kilowatts * 180.0 * 3.114 + 256_480.0) / 700_000.0
+}
+
+// New ships. S in class IA has f_m in the amended edition (2) and not in the first (1); the vehicle carrier, 5,397,340 g/h over 20,000 t
+// x 18 knots, has f_c 1 in both; the light bulk carrier, S with R 0.5, keeps hers, and the coaster f_j and f_l.
+fn new_ships() -> Vec<(Block, f64, Vec<(&'static str, f64)>)> {
+    let s = |class: u64, edition: u64| in_edition(s_with(&[(ICE, class)]), edition);
+    let vehicle = 1e6 * 5_397_340.0 / 360_000.0;
+    let (vehicle_factor, light_factor) = (1.05f64.powf(0.8), 0.5f64.powf(-0.15));
+    let mut iced_vehicle = vehicle_carrier(2);
+    put(&mut iced_vehicle, ICE, 1);
+    let light = s_with(&[(CARGO_VOLUME, 100_000)]);
+    let structural = s_with(&[(LIGHTWEIGHT, 10_000)]);
+    let lifting = right(14.0, 178.4);
+    vec![
+        (s(0, 1), S_INDEX, vec![("83 % of MCR in an EEDI", s_at(6_640.0)), ("f_m without a class in an EEDI", S_INDEX / 1.05)]),
+        (s(1, 1), S_INDEX, vec![("f_m in the first edition", S_INDEX / 1.05)]),
+        (s(2, 1), S_INDEX, vec![("f_m of IC in the first edition", S_INDEX / 1.05)]),
+        (s(1, 2), S_INDEX / 1.05, vec![("no f_m in the amended edition", S_INDEX), ("f_m twice", S_INDEX / 1.05 / 1.05)]),
+        (s(2, 2), S_INDEX, vec![("f_m of IC in the amended edition", S_INDEX / 1.05)]),
+        (s(1, 0), S_INDEX / 1.05, vec![("no f_m in the EEXI of layout 2", S_INDEX)]),
+        (vehicle_carrier(1), vehicle, vec![("vehicle carriers' f_c in the first edition", vehicle / vehicle_factor)]),
+        (vehicle_carrier(2), vehicle, vec![
+            ("vehicle carriers' f_c in the amended edition", vehicle / vehicle_factor),
+            ("vehicle carriers' f_c upside down in an EEDI", vehicle * vehicle_factor),
+        ]),
+        (sealed(iced_vehicle), vehicle / 1.05, vec![
+            ("f_c in place of f_m", vehicle / vehicle_factor),
+            ("f_c beside f_m in an EEDI", vehicle / vehicle_factor / 1.05),
+        ]),
+        (vehicle_carrier(0), vehicle / vehicle_factor, vec![("no f_c in the EEXI of layout 2", vehicle)]),
+        (in_edition(light, 1), S_INDEX / light_factor, vec![("no light-cargo f_c in the first edition", S_INDEX)]),
+        (in_edition(light, 2), S_INDEX / light_factor, vec![("no light-cargo f_c in the amended edition", S_INDEX)]),
+        (in_edition(structural, 1), S_INDEX / 1.016, vec![("no f_i in an EEDI", S_INDEX)]),
+        (in_edition(with_cranes(coaster(1_400)), 2), lifting.index(), vec![
+            ("no f_j in an EEDI", Reading { froude_cap: 0.1, ..lifting }.index()),
+            ("no f_l in an EEDI", Reading { tonnes: 0.0, ..lifting }.index()),
+        ]),
+    ]
+}
+
+// A ship, the line that she must have, and those of wrong readings.
+type Lines = (Block, String, Vec<(&'static str, String)>);
+
 fn line(index: f64) -> String {
     format!("0 9074729 {} {}", index.floor(), index.ceil())
 }
 
+fn refused(rule: u64) -> String {
+    format!("0 refused {}", rule)
+}
+
+// With f_c 1 the vehicle carrier's EEDI, 14.9926111 g, is rounded down and up and has no other enclosure.
+fn wide_bounds() -> Vec<Lines> {
+    let of = |edition: u64| {
+        let bounds = |lower: u64, upper: u64| format!("0 9074729 {} {}", lower, upper);
+        let wrong = vec![
+            ("an EEDI's lower bound one less", bounds(14_992_610, 14_992_612)),
+            ("an EEDI's upper bound one more", bounds(14_992_611, 14_992_613)),
+        ];
+        (vehicle_carrier(edition), bounds(14_992_611, 14_992_612), wrong)
+    };
+    vec![of(1), of(2)]
+}
+
+// Without a source the auxiliaries have 400 x 215 x 3.114 = 267,804 g/h, the main engine 6,000 x 190 x 3.114 = 3,549,960.
+fn without_sources() -> Vec<Lines> {
+    let without = |engine: usize, edition: u64| {
+        let mut block = ship_s();
+        put_consumption(&mut block, engine, [0, 0], 0, 3);
+        in_edition(block, edition)
+    };
+    let (main, auxiliary) = (line(1e6 * 3_806_440.0 / 700_000.0), line(1e6 * 3_630_924.0 / 700_000.0));
+    vec![
+        (without(0, 1), refused(19), vec![
+            ("no source of an EEDI's main engine", main.clone()),
+            ("no source of an EEDI as rule 10's", refused(10)),
+        ]),
+        (without(4, 2), refused(19), vec![("no source of an EEDI's auxiliaries", auxiliary.clone())]),
+        (without(0, 0), main, vec![("no source of an EEXI's main engine, refused", refused(19))]),
+        (without(4, 0), auxiliary, vec![("no source of an EEXI's auxiliaries, refused", refused(19))]),
+    ]
+}
+
+// A limit of 7,100 kW makes 5,893 of the 6,000. Of two engines together the auxiliaries have 650 kW, so 416,780 g/h.
+fn limiters() -> Vec<Lines> {
+    let limited = s_with(&[(limit(0), 7_100)]);
+    let mut two = s_with(&[(ENGINES, 2), (limit(1), 7_100)]);
+    put_both(&mut two, mcr(1), 8_000);
+    put_consumption(&mut two, 1, [1_800, 1_800], 3, 1);
+    let both = 1e6 * (11_893.0 * 180.0 * 3.114 + 416_780.0) / 700_000.0;
+    vec![
+        (in_edition(limited, 2), refused(19), vec![
+            ("an EEDI with a limiter", line(s_at(5_893.0))),
+            ("a limiter that an EEDI passes over", line(S_INDEX)),
+            ("an EEDI's limiter as rule 9's", refused(9)),
+        ]),
+        (in_edition(limited, 0), line(s_at(5_893.0)), vec![("an EEXI with a limiter, refused", refused(19))]),
+        (in_edition(two, 1), refused(19), vec![("an EEDI with a limiter on the second engine", line(both))]),
+        (in_edition(s_with(&[(limit(1), 7_100)]), 1), refused(16), vec![
+            ("a limiter in an unused entry as rule 19's", refused(19)),
+            ("a limiter in an unused entry", line(S_INDEX)),
+        ]),
+    ]
+}
+
+// A trial at P_ME gives its own speed; at design draught it is 14 x 0.97^(1/3) x 0.8^(2/9). By statistics V_avg is 10.6585 x
+// 50,000^0.02706 less 5 %, and MCR_avg 23.7510 x 50,000^0.54087.
+fn speeds() -> Vec<Lines> {
+    let trial = s_with(&[(METHOD, 2), (TRIAL_POWER, 6_000)]);
+    let design = s_with(&[(METHOD, 3), (TRIAL_POWER, 6_000), (TRIAL_DEADWEIGHT, 40_000)]);
+    let statistical = s_with(&[(METHOD, 4), (SPEED[0], 0), (SPEED[1], 0)]);
+    let at_design = S_INDEX / (0.97f64.cbrt() * 0.8f64.powf(2.0 / 9.0));
+    let average = 0.95 * 10.6585 * 50_000f64.powf(0.02706) * (8_000.0 / (23.7510 * 50_000f64.powf(0.54087))).cbrt();
+    let by_statistics = S_INDEX * 14.0 / average;
+    vec![
+        (in_edition(trial, 1), refused(19), vec![
+            ("a trial's speed in an EEDI", line(S_INDEX)),
+            ("a trial's speed in an EEDI as rule 13's", refused(13)),
+        ]),
+        (in_edition(design, 2), refused(19), vec![("a design trial's speed in an EEDI", line(at_design))]),
+        (in_edition(statistical, 1), refused(19), vec![("a statistical speed in an EEDI", line(by_statistics))]),
+        (in_edition(trial, 0), line(S_INDEX), vec![("a trial's speed refused in an EEXI", refused(19))]),
+        (in_edition(design, 0), line(at_design), vec![("a design trial's speed refused in an EEXI", refused(19))]),
+        (in_edition(statistical, 0), line(by_statistics), vec![("a statistical speed refused in an EEXI", refused(19))]),
+    ]
+}
+
+// The edition's byte itself, and its place in the order of the rules.
+fn edition_bytes() -> Vec<Lines> {
+    let iced = s_with(&[(ICE, 1)]);
+    let limited = s_with(&[(LIGHTWEIGHT, 99), (limit(0), 7_100)]);
+    vec![
+        (in_edition(ship_s(), 3), refused(19), vec![("edition 3", line(S_INDEX)), ("edition 3 as rule 16's", refused(16))]),
+        (in_edition(iced, 3), refused(19), vec![("edition 3 as the amended one", line(S_INDEX / 1.05))]),
+        (in_edition(iced, 255), refused(19), vec![("edition 255 as the first one", line(S_INDEX))]),
+        (in_edition(s_with(&[(LIGHTWEIGHT, 99)]), 3), refused(18), vec![("19 before 18", refused(19))]),
+        (in_edition(limited, 1), refused(18), vec![("an EEDI's limiter before 18", refused(19))]),
+        (in_edition(s_with(&[(Field(142, 1), 1)]), 3), refused(16), vec![("19 before 16", refused(19))]),
+        (in_edition(s_with(&[(Field(143, 1), 1)]), 1), refused(16), vec![
+            ("a byte behind the edition as rule 19's", refused(19)),
+            ("a byte behind the edition", line(S_INDEX)),
+        ]),
+        (s_with(&[(EDITION, 1)]), refused(16), vec![
+            ("an edition in layout 1", line(S_INDEX)),
+            ("an edition in layout 1 as rule 19's", refused(19)),
+        ]),
+        (s_with(&[(EDITION, 3)]), refused(16), vec![("edition 3 in layout 1 as rule 19's", refused(19))]),
+    ]
+}
+
 // How many wrong readings there are, and the names of those that were not caught.
 pub fn uncaught() -> (usize, Vec<&'static str>) {
-    let mut ships = coasters();
-    ships.push(bulk_carrier());
+    let mut indexes = coasters();
+    indexes.push(bulk_carrier());
+    indexes.extend(new_ships());
+    let lines = |(block, index, wrong): (Block, f64, Vec<(&'static str, f64)>)| -> Lines {
+        (block, line(index), wrong.into_iter().map(|(name, index)| (name, line(index))).collect())
+    };
+    let mut ships: Vec<Lines> = indexes.into_iter().map(lines).collect();
+    for more in vec![wide_bounds(), without_sources(), limiters(), speeds(), edition_bytes()] {
+        ships.extend(more);
+    }
     let mut missed = Vec::new();
-    for (block, index, wrong) in &ships {
-        let passes = |index: f64| hold::verdict(0, desk::answer(block), &line(index)).is_ok();
-        if !passes(*index) {
+    for (block, right, wrong) in &ships {
+        let passes = |line: &str| hold::verdict(0, desk::answer(block), line).is_ok();
+        if !passes(right) {
             missed.push("a right reading, which was found wrong");
         }
-        missed.extend(wrong.iter().filter(|(_, index)| passes(*index)).map(|(name, _)| *name));
+        missed.extend(wrong.iter().filter(|(_, line)| passes(line)).map(|(name, _)| *name));
     }
     (ships.iter().map(|(_, _, wrong)| wrong.len()).sum(), missed)
 }
