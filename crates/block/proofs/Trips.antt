@@ -44,7 +44,7 @@ listed idle es i (suc n) h = ap (λ (l : List _). getD es i idle ∷ l) (listed 
 
 -- Particulars with other crane entries.
 abbrev with-gear : Particulars → List Crane → Particulars
-with-gear p gear = with-build (p .ice) (p .layout) (record { edition = p .build .edition; lightweight = p .build .lightweight; hull = p .build .hull; cranes = p .build .cranes; gear = gear }) p
+with-gear p gear = with-build (p .ice) (p .layout) (record { lightweight = p .build .lightweight; hull = p .build .hull; cranes = p .build .cranes; gear = gear; edition = p .build .edition }) p
 
 -- Each number of the table goes to its place in the record.
 from-table : (s : Ship) → Entries s → ship-from (numbers-of (fields s)) ≡ s

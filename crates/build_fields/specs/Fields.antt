@@ -61,9 +61,9 @@ gear-from ns =
 unfoldable pub build-from : List ℕ → Build
 build-from ns =
     record {
-      edition = getD ns 3 0;
       lightweight = getD ns 0 0;
       hull = record { volume = getD ns 1 0; length = getD ns 21 0; breadth = getD ns 22 0; draught = getD ns 23 0 };
       cranes = getD ns 2 0;
       gear = gear-from (drop 5 ns);
+      edition = getD ns 3 0;
     }

@@ -25,11 +25,11 @@ pub fn nothing_added() -> Build
     };
     let none = Crane { swl: 0, reach: 0 };
     Build {
-        edition: 0,
         lightweight: 0,
         hull,
         cranes: 0,
         gear: [none, none, none, none, none, none, none, none],
+        edition: 0,
     }
 }
 
@@ -76,11 +76,11 @@ pub fn build_in(block: &[u8]) -> Build
         draught: number_at(block, 184, 4),
     };
     Build {
-        edition: number_at(block, 141, 1),
         lightweight: number_at(block, 132, 4),
         hull,
         cranes: number_at(block, 140, 1),
         gear,
+        edition: number_at(block, 141, 1),
     }
 }
 

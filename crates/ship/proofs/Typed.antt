@@ -24,7 +24,7 @@ pub eight : (s : Ship) (vs : List Val) → shadow (row the-type .own s vs) → l
 eight s vs g =
     let p = g .1 .1 .0 .1 .1 in
     let b = p .1 .1 .1 .1 .1 .1 .1 .1 .1 .1 .1 .1 .0 .1 .1 in
-    sym (unmapped (crane.the-field .into) (s .particulars .build .gear)) ∙ b .1 .1 .1 .1 .0 .1 .0 .1
+    sym (unmapped (crane.the-field .into) (s .particulars .build .gear)) ∙ b .1 .1 .1 .0 .1 .0 .1
 
 pub all-entries : (s : Ship) (vs : List Val) → shadow (row the-type .own s vs) → Entries s
 all-entries s vs g = record { engines = four s vs g; gear = eight s vs g }

@@ -19,11 +19,11 @@ no-crane = record { swl = 0; reach = 0 }
 abbrev pub no-build : Build
 no-build =
     record {
-      edition = 0;
       lightweight = 0;
       hull = record { volume = 0; length = 0; breadth = 0; draught = 0 };
       cranes = 0;
       gear = no-crane ∷ no-crane ∷ no-crane ∷ no-crane ∷ no-crane ∷ no-crane ∷ no-crane ∷ no-crane ∷ [];
+      edition = 0;
     }
 
 -- Every value of the type has four engine entries and eight crane entries, used or not.
@@ -73,5 +73,5 @@ in-edition edition s =
     ship-with
     (s .particulars .ice)
     (s .particulars .layout)
-    (record { edition = edition; lightweight = b .lightweight; hull = b .hull; cranes = b .cranes; gear = b .gear })
+    (record { lightweight = b .lightweight; hull = b .hull; cranes = b .cranes; gear = b .gear; edition = edition })
     s

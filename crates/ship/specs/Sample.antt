@@ -30,11 +30,11 @@ S-in layout edition ice lightweight uses speed =
         used = 1;
         layout = layout;
         build = record {
-          edition = edition;
           lightweight = lightweight;
           hull = record { volume = 0; length = 0; breadth = 0; draught = 0 };
           cranes = 0;
           gear = no-crane ∷ no-crane ∷ no-crane ∷ no-crane ∷ no-crane ∷ no-crane ∷ no-crane ∷ no-crane ∷ [];
+          edition = edition;
         };
       };
       speed = speed;

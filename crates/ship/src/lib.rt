@@ -54,13 +54,13 @@ pub struct Crane {
     pub reach: u64,
 }
 
-// What layout 2 adds: the edition, 0 EEXI, 1 EEDI, 2 EEDI as amended; lightweight in tonnes; the first `cranes` crane entries count.
+// What layout 2 adds: lightweight in tonnes; the first `cranes` crane entries count; edition 0 is EEXI, 1 EEDI, 2 EEDI as amended.
 pub struct Build {
-    pub edition: u64,
     pub lightweight: u64,
     pub hull: Hull,
     pub cranes: u64,
     pub gear: [Crane; 8],
+    pub edition: u64,
 }
 
 // What is never a range. Volume in m³; auxiliary power 1 is by the rule, 2 the table's kW; the first `used` engine entries count.
