@@ -298,7 +298,7 @@ module _ {s : Ship} (t : Accepted-record s) (new : figures s .ship .edition ≡ 
   -- An accepted EEDI has no limiter, a source for every consumption, and a declared speed.
   pub new-ship : New-ship (figures s)
   unfolding figures
-  new-ship = editions.new-ship s (t .entries .engines) (t .none) (λ z. new (ap edition-of z))
+  new-ship = editions.new-ship s (t .none) (λ z. new (ap edition-of z)) (t .entries .engines)
 
   -- So P_ME of every engine, of every ship inside her ranges, is 75 % of MCR.
   pub new-power : {f : Figures ℕ} → Inside (figures s) f → Each (λ e. P-ME (e .mcr) (e .limit) ≡ 75 * e .mcr) (f .engines)
@@ -311,6 +311,22 @@ module _ {s : Ship} (t : Accepted-record s) (new : figures s .ship .edition ≡ 
 
     pub new-rounded-up : (n : ℕ) → bounds above (index f) (n // 1000000) → upper s ≤ n
     new-rounded-up = rounded-up t one (new-ship .method) other (f-c-full (figures s .ship .kind) (figures s .ship) new cargo)
+
+  -- She is accepted in every edition, so that what follows speaks of her in each.
+  pub every-edition : (edition : ℕ) → edition ≤ 2 → Accepted-record (in-edition edition s)
+  unfolding figures
+  every-edition edition listed =
+      record {
+        entries = record { engines = t .entries .engines; gear = t .entries .gear };
+        none = editions.every-edition s (t .none) (λ z. new (ap edition-of z)) edition listed;
+      }
+
+-- The same record in another ice class or edition has that one, and in her own she is herself.
+pub class-changed : (s : Ship) (ice : ℕ) → (in-class ice s .particulars .ice ≡ ice) × (in-class (s .particulars .ice) s ≡ s)
+class-changed s ice = (refl, refl)
+
+pub edition-changed : (s : Ship) (edition : ℕ) → (in-edition edition s .particulars .build .edition ≡ edition) × (in-edition (s .particulars .build .edition) s ≡ s)
+edition-changed s edition = (refl, refl)
 
 -- Edition 1's answer doesn't depend on the ice class.
 pub first-any-class : (s : Ship) (ice : ℕ) → s .particulars .build .edition ≡ 1 → s .particulars .ice ≤ 2 → ice ≤ 2 → answer-of (in-class ice s) ≡ answer-of s

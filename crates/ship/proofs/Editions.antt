@@ -13,10 +13,10 @@ use Rattle.exact.specs.Index.{P-ME, strengthened, f-m}
 use Rattle.exact.specs.Ranges as ranges
 use Rattle.exact.specs.Ranges.{Range, within, Inside}
 use Rattle.exact.proofs.Rules.{P-ME-unlimited, f-m-other}
-use Rattle.ship.specs.Record.{no-engine, in-class}
+use Rattle.ship.specs.Record.{no-engine, in-class, in-edition}
 use Rattle.ship.specs.Refusals.{first-of}
 use Rattle.ship.specs.Figures.{last-ice, ice-of, last-edition, edition-of, range-of, uses-of, engine-of, mains, method-of, figures}
-use Rattle.ship.specs.Rules.{nonzero, between, any-used, shaped, lifting, built, ice-refused, trial-refused, not-new, edition-refused, hull-tests, plant-tests, trial-tests, refusal-of}
+use Rattle.ship.specs.Rules.{nonzero, between, any-used, shaped, lifting, built, ice-refused, trial-refused, build-refused, not-new, edition-refused, hull-tests, plant-tests, trial-tests, refusal-of}
 use Rattle.ship.specs.Accepted as accepted
 use Rattle.ship.specs.Accepted.{Within, Sourced, New-engine, New-ship}
 use Rattle.ship.specs.declared.Consumption.{Consumption}
@@ -24,7 +24,7 @@ use Rattle.ship.specs.declared.Engine.{Engine}
 use Rattle.ship.specs.declared.Build.{Build}
 use Rattle.ship.specs.declared.Ship.{Ship}
 use Rattle.ship.specs.declared.Refusal.the-variants as refusal
-use Rattle.ship.proofs.Tests.{neither, not-with, is-zero, each-used}
+use Rattle.ship.proofs.Tests.{neither, not-with, and-false, is-zero, each-used}
 use Rattle.ship.proofs.Figured.{each-main}
 use Rattle.ship.proofs.Right.{by-method, no-refusal, numbers-accepted}
 
@@ -82,23 +82,64 @@ by-declared zero w e = absurd (omega (arith, w .least))
 by-declared (suc zero) w e = refl
 by-declared (suc (suc m)) w e = absurd (let z : _≡_ {A = ℕ} 0 1 = let h = by-method (suc (suc m)) w (omega arith) in cc in omega arith)
 
-pub new-ship : (s : Ship) → length (s .engines) ≡ 4 → refusal-of s ≡ refusal.None → (s .particulars .build .edition ≡ 0 → ⊥) → New-ship (figures s)
-unfolding figures method-of edition-refused
-new-ship s four none new =
-    let p = s .particulars in
-    let es = s .engines in
-    let r = numbers-accepted s none in
-    let u = r .used in
-    let some = any-used not-new (p .used) es in
-    let e = neither (ltb last-edition (p .build .edition)) _ (no-refusal s none .edition) in
-    let k = neither (some || eqb (s .auxiliary .source) 3) (between 2 4 (p .method)) (not-with (nonzero (p .build .edition)) _ (e .1) (ap not (ne-eqb (p .build .edition) 0 new))) in
-    let j = neither some (eqb (s .auxiliary .source) 3) (k .0) in
-    record {
-      engines = each-main New-engine (p .used) es (omega (arith, u .most)) (λ i h. new-engine (getD es i no-engine) (each-used not-new (p .used) es (j .0) i (omega (arith, u .most)) h));
-      auxiliary-uses = sourced (s .auxiliary) (j .1);
-      speed = range-of (s .speed);
-      method = ap (λ m. method-of m (range-of (s .speed)) (p .trial)) (by-declared (p .method) (r .speed .method) (k .1));
-    }
+module _ (s : Ship) (none : refusal-of s ≡ refusal.None) (new : s .particulars .build .edition ≡ 0 → ⊥) where
+  -- What an EEDI rules out is not there.
+  allowed : any-used not-new (s .particulars .used) (s .engines) || eqb (s .auxiliary .source) 3 || between 2 4 (s .particulars .method) ≡ false
+  unfolding edition-refused
+  allowed =
+      let edition = s .particulars .build .edition in
+      not-with (nonzero edition) _ (neither (ltb last-edition edition) _ (no-refusal s none .edition) .1) (ap not (ne-eqb edition 0 new))
+
+  pub new-ship : length (s .engines) ≡ 4 → New-ship (figures s)
+  unfolding figures method-of
+  new-ship four =
+      let p = s .particulars in
+      let es = s .engines in
+      let r = numbers-accepted s none in
+      let u = r .used in
+      let some = any-used not-new (p .used) es in
+      let k = neither (some || eqb (s .auxiliary .source) 3) (between 2 4 (p .method)) allowed in
+      let j = neither some (eqb (s .auxiliary .source) 3) (k .0) in
+      record {
+        engines = each-main New-engine (p .used) es (omega (arith, u .most)) (λ i h. new-engine (getD es i no-engine) (each-used not-new (p .used) es (j .0) i (omega (arith, u .most)) h));
+        auxiliary-uses = sourced (s .auxiliary) (j .1);
+        speed = range-of (s .speed);
+        method = ap (λ m. method-of m (range-of (s .speed)) (p .trial)) (by-declared (p .method) (r .speed .method) (k .1));
+      }
+
+  -- So she is accepted in every edition.
+  module _ (edition : ℕ) (listed : edition ≤ last-edition) where
+    edition-passed : edition-refused (in-edition edition s) ≡ false
+    unfolding edition-refused
+    edition-passed = rw (le-ltb last-edition edition listed, allowed) (and-false (nonzero edition))
+
+    layout-passed : eqb (s .particulars .layout) 1 ≡ false
+    layout-passed = ne-eqb (s .particulars .layout) 1 (λ h. new (older s none h))
+
+    pub every-edition : refusal-of (in-edition edition s) ≡ refusal.None
+    unfolding refusal-of first-of hull-tests plant-tests trial-tests trial-refused build-refused
+    every-edition =
+        let q = no-refusal s none in
+        let h = q .early in
+        rw (
+          h .layout,
+          h .imo,
+          h .kind,
+          h .deadweight,
+          h .gross,
+          h .cargo,
+          h .engines,
+          h .consumption,
+          h .auxiliary,
+          h .ice,
+          h .speed,
+          h .ranges,
+          q .trial,
+          q .unused,
+          layout-passed,
+          q .build,
+          edition-passed,
+        )
 
 -- P_ME of each of her engines is 75 % of MCR.
 full-powers : {es : List (exact.Engine Range)} {es' : List (exact.Engine ℕ)} → ranges.Engines within es es' → accepted.Each New-engine es

@@ -16,15 +16,11 @@ use Rattle.ship.specs.declared.Build.{Build}
 use Rattle.ship.specs.declared.Ship.{Ship}
 use Rattle.ship.specs.declared.Refusal.{Refusal}
 use Rattle.ship.specs.declared.Refusal.the-variants as refusal
-use Rattle.ship.proofs.Tests.{or-false}
+use Rattle.ship.proofs.Tests.{or-false, and-false}
 
 -- Types 1 to 7 are taken in both.
 pub seven-in-both : (layout kind : ℕ) → kind ≤ 7 → type-refused layout kind ≡ outside 1 8 kind
 seven-in-both layout kind h = rw (le-ltb 7 kind h) (or-false (outside 1 8 kind))
-
-and-false : (t : Bool) → t && false ≡ false
-and-false true = refl
-and-false false = refl
 
 nothing-newer : (layout : ℕ) (b : Build) → b ≡ no-build → newer-refused layout b ≡ false
 unfolding built

@@ -37,6 +37,10 @@ pub or-false : (b : Bool) → b || false ≡ b
 or-false true = refl
 or-false false = refl
 
+pub and-false : (b : Bool) → b && false ≡ false
+and-false true = refl
+and-false false = refl
+
 -- ── Tests that fail ─────────────────────────────────────────────────────────────────────────
 
 pub neither : (a b : Bool) → a || b ≡ false → (a ≡ false) × (b ≡ false)
