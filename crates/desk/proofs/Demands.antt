@@ -14,19 +14,19 @@ use mir.Val.{Val}
 use denote.Shadow.{shadow}
 use denote.Struct.Declared.{row}
 use Rattle.formula.specs.Formula.{_//_, Formula, below, above, bounds, Enclosed}
-use Rattle.exact.specs.Ship.{Deadweight, Kind, Particulars, declared, bulk, vehicle, general, IceClass, IB-or-IC, EEXI, EEDI-first, EEDI-amended, Engine, Figures}
+use Rattle.exact.specs.Ship.{Deadweight, Kind, Particulars, declared, bulk, general, IceClass, IB-or-IC, EEXI, EEDI-first, EEDI-amended, Figures}
 use Rattle.exact.specs.Ranges.{Range, low, high, Inside, Narrowed, Stands-for, most-favourable, least-favourable}
 use Rattle.formula.specs.Words.{whole, if}
 use Rattle.exact.specs.Index.{P-ME, f-c, f-i, f-l, strengthened, f-m, speed, index}
 use Rattle.formula.proofs.Formulas.{consistent}
-use Rattle.exact.proofs.Rules.{P-ME-unlimited, f-i-none, f-l-none, f-c-full}
+use Rattle.exact.proofs.Rules.{f-i-none, f-l-none, f-c-full}
 use Rattle.exact.proofs.Rules as rules
 use Rattle.exact.proofs.Favour.{stands-most, stands-least, inside-enclosed, ship-inside, low-inside, high-inside}
 use Rattle.ship.specs.Record.{no-build, in-layout, in-class, in-edition}
-use Rattle.ship.specs.Figures.{figures, last-ice, ice-of, edition-of}
+use Rattle.ship.specs.Figures.{figures, ice-of, edition-of}
 use Rattle.ship.specs.Refusals.{number-of, First, given}
 use Rattle.ship.specs.Rules.{outside, layout-refused, type-refused, tests, refusal-of, ice-refused}
-use Rattle.ship.specs.Accepted.{Within, Each, no-more, one-more, New-engine, New-ship, Accepted-figures}
+use Rattle.ship.specs.Accepted.{Within, Each, New-ship, Accepted-figures}
 use Rattle.ship.specs.declared.Refusal.{Refusal}
 use Rattle.ship.specs.declared.Refusal.the-variants.{None, Length}
 use Rattle.ship.specs.declared.Ship.{Ship}
@@ -51,7 +51,7 @@ use Rattle.index.specs.declared.Index.{Index}
 use Rattle.index.proofs.Laws as law
 use Rattle.index.proofs.Editions.{bounds-under}
 use Rattle.factor.proofs.Laws.{vehicles-full}
-use Rattle.desk.specs.Answers.{answer-of, answer-of-block, number-in, lower-in, upper-in, Accepted-record, lower, upper}
+use Rattle.desk.specs.Answers.{answer-of, answer-of-block, number-in, lower-in, upper-in, Accepted-record, lower, upper, Not-light-vehicles}
 use Rattle.desk.specs.declared.Answer.the-variants.{Bounds, Refused}
 use Rattle.desk.proofs.Answering.{refused, bounded, numbered, zero-bounded, block-accepted}
 use mathlib.Core.Bool.{Bool, true, false}
@@ -338,16 +338,23 @@ first-any-class s ice first own listed =
     (editions.class-alike s ice listed own)
     (bounds-under (edition-of edition) (ice-of ice) (figures s) (editions.first-without edition ice first ∙ sym (editions.first-without edition (s .particulars .ice) first)) (λ k. refl))
 
--- Where the ice class is not 1 and the ship is no light vehicle carrier, she has the same bounds in every edition that accepts her.
-pub same-in-editions : (s : Ship) (edition edition' : ℕ) → Accepted-record (in-edition edition s) → Accepted-record (in-edition edition' s)
-    → (s .particulars .ice ≡ 1 → ⊥) → (figures s .ship .kind ≡ vehicle → 35 * s .particulars .gross .gt ≤ s .particulars .deadweight .tonnes * 100)
-    → answer-of (in-edition edition s) ≡ answer-of (in-edition edition' s)
-unfolding figures
-same-in-editions s edition edition' t t' plain full =
-    let ice = s .particulars .ice in
-    record-bounded _ (t .none)
-    ∙ ap Bounds (
-    bounds-under (edition-of edition) (ice-of ice) (figures (in-edition edition' s)) (editions.others-without edition ice plain ∙ sym (editions.others-without edition' ice plain))
-    (λ k. vehicles-full (edition-of edition) _ _ (full k) ∙ sym (vehicles-full (edition-of edition') _ _ (full k)))
-    )
-    ∙ sym (record-bounded _ (t' .none))
+-- The same record in two editions that accept it, which give it one f_m; no light vehicle carrier.
+module _ (s : Ship) (edition edition' : ℕ) (t : Accepted-record (in-edition edition s)) (t' : Accepted-record (in-edition edition' s)) (full : Not-light-vehicles s) where
+  one-f-m : f-m (edition-of edition) (ice-of (s .particulars .ice)) ≡ f-m (edition-of edition') (ice-of (s .particulars .ice))
+      → answer-of (in-edition edition s) ≡ answer-of (in-edition edition' s)
+  unfolding figures
+  one-f-m e =
+      record-bounded _ (t .none)
+      ∙ ap Bounds (bounds-under (edition-of edition) (ice-of (s .particulars .ice)) (figures (in-edition edition' s)) e
+      (λ k. vehicles-full (edition-of edition) _ _ (full k) ∙ sym (vehicles-full (edition-of edition') _ _ (full k))))
+      ∙ sym (record-bounded _ (t' .none))
+
+  -- Where her ice class is not 1 she has the same bounds in both.
+  pub same-in-editions : (s .particulars .ice ≡ 1 → ⊥) → answer-of (in-edition edition s) ≡ answer-of (in-edition edition' s)
+  same-in-editions plain =
+      let ice = s .particulars .ice in
+      one-f-m (editions.others-without edition ice plain ∙ sym (editions.others-without edition' ice plain))
+
+-- And whatever her ice class, the amended EEDI is the EEXI.
+pub amended-as-EEXI : (s : Ship) → Accepted-record (in-edition 2 s) → Accepted-record (in-edition 0 s) → Not-light-vehicles s → answer-of (in-edition 2 s) ≡ answer-of (in-edition 0 s)
+amended-as-EEXI s t t' full = one-f-m s 2 0 t t' full (f-m-of-editions (ice-of (s .particulars .ice)) .1)

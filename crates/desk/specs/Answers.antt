@@ -1,11 +1,12 @@
 -- The desk's answers, and this paper's number and values for each case.
 -- Assumes nothing.
-use Prim.Native.Nat.{ℕ}
+use Prim.Native.Nat.{ℕ, _*_, _≤_}
 use mathlib.Core.Path.{_≡_}
 use mathlib.Core.List.{List}
 use lib.Dec.{eqb}
 use lib.ListN.{length}
 use Rattle.formula.specs.Words.{if}
+use Rattle.exact.specs.Ship.{vehicle}
 use Rattle.ship.specs.Record.{Entries}
 use Rattle.ship.specs.Refusals.{number-of}
 use Rattle.ship.specs.Rules.{refusal-of}
@@ -54,3 +55,7 @@ lower s = lower-in (answer-of s)
 
 abbrev pub upper : Ship → ℕ
 upper s = upper-in (answer-of s)
+
+-- No light vehicle carrier: her deadweight over gross tonnage is not below 0.35.
+abbrev pub Not-light-vehicles : Ship → Type 0
+Not-light-vehicles s = figures s .ship .kind ≡ vehicle → 35 * s .particulars .gross .gt ≤ 100 * s .particulars .deadweight .tonnes

@@ -1,7 +1,7 @@
 -- The laws of f_c and f_l by name: what their users may know of them.
 -- Assumes nothing.
 use Prim.Native.Nat.{ℕ, zero, suc, _*_, _^_, _≤_, _<_}
-use mathlib.Core.Path.{_≡_, refl, sym, ap}
+use mathlib.Core.Path.{_≡_, refl, ap}
 use mathlib.Core.Bool.{Bool, true, false}
 use native.Mathlib.Nat.{le-trans, mul-le-mul-left, suc-pred-eq-of-pos}
 use native.Mathlib.Omega.{arith}
@@ -125,9 +125,9 @@ module _ (dwt : Deadweight) (gross : GrossTonnage) (d : Within 100 600000 (dwt .
   vehicles-under-follows EEDI-amended = exactly
 
 -- From 0.35 on it is 1 in every edition.
-pub vehicles-full : (edition : Edition) (dwt : Deadweight) (gross : GrossTonnage) → 35 * gross .gt ≤ dwt .tonnes * 100 → vehicles-by edition dwt gross ≡ one
+pub vehicles-full : (edition : Edition) (dwt : Deadweight) (gross : GrossTonnage) → 35 * gross .gt ≤ 100 * dwt .tonnes → vehicles-by edition dwt gross ≡ one
 unfolding vehicles-by vehicles-factor
-vehicles-full EEXI dwt gross h = rw (le-ltb (dwt .tonnes * 100) (35 * gross .gt) h)
+vehicles-full EEXI dwt gross h = rw (le-ltb (dwt .tonnes * 100) (35 * gross .gt) (omega (arith, h)))
 vehicles-full EEDI-first dwt gross h = refl
 vehicles-full EEDI-amended dwt gross h = refl
 

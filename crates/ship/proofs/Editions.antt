@@ -1,11 +1,11 @@
 -- Editions: f_m by the two numbers of a record, what rule 19 leaves of a new ship, and what an ice class alone doesn't change.
 -- Assumes nothing.
-use Prim.Native.Nat.{ℕ, zero, suc, _*_, _≤_, _<_}
-use mathlib.Core.Path.{_≡_, refl, sym, ap, _∙_}
-use mathlib.Core.Bool.{Bool, true, false, _&&_, _||_, not}
+use Prim.Native.Nat.{ℕ, zero, suc, _*_, _≤_}
+use mathlib.Core.Path.{_≡_, refl, ap}
+use mathlib.Core.Bool.{false, _||_, not}
 use mathlib.Core.List.{List, _++_}
 use native.Mathlib.Omega.{arith}
-use borrow.Author.Tests.{le-ltb, ne-eqb, eqb-true}
+use borrow.Author.Tests.{le-ltb, ne-eqb}
 use lib.Dec.{eqb, ltb}
 use lib.ListN.{length, getD}
 use Rattle.exact.specs.Ship as exact
@@ -15,8 +15,8 @@ use Rattle.exact.specs.Ranges.{Range, within, Inside}
 use Rattle.exact.proofs.Rules.{P-ME-unlimited, f-m-other}
 use Rattle.ship.specs.Record.{no-engine, in-class, in-edition}
 use Rattle.ship.specs.Refusals.{first-of}
-use Rattle.ship.specs.Figures.{last-ice, ice-of, last-edition, edition-of, range-of, uses-of, engine-of, mains, method-of, figures}
-use Rattle.ship.specs.Rules.{nonzero, between, any-used, shaped, lifting, built, ice-refused, trial-refused, build-refused, not-new, edition-refused, hull-tests, plant-tests, trial-tests, refusal-of}
+use Rattle.ship.specs.Figures.{last-ice, ice-of, last-edition, edition-of, range-of, uses-of, engine-of, method-of, figures}
+use Rattle.ship.specs.Rules.{nonzero, between, any-used, shaped, built, trial-refused, build-refused, not-new, edition-refused, hull-tests, plant-tests, trial-tests, refusal-of}
 use Rattle.ship.specs.Accepted as accepted
 use Rattle.ship.specs.Accepted.{Within, Sourced, New-engine, New-ship}
 use Rattle.ship.specs.declared.Consumption.{Consumption}
