@@ -19,7 +19,7 @@ use Rattle.exact.specs.Ranges.{Range, low, high, Inside, Narrowed, Stands-for, 
 use Rattle.formula.specs.Words.{whole, if}
 use Rattle.exact.specs.Index.{P-ME, f-c, f-i, f-l, strengthened, f-m, speed, index}
 use Rattle.formula.proofs.Formulas.{consistent}
-use Rattle.exact.proofs.Rules.{f-i-none, f-l-none, f-c-full}
+use Rattle.exact.proofs.Rules.{f-i-none, f-l-none, f-c-new}
 use Rattle.exact.proofs.Rules as rules
 use Rattle.exact.proofs.Favour.{stands-most, stands-least, inside-enclosed, ship-inside, low-inside, high-inside}
 use Rattle.ship.specs.Record.{no-build, in-layout, in-class, in-edition}
@@ -307,10 +307,10 @@ module _ {s : Ship} (t : Accepted-record s) (new : figures s .ship .edition ≡ 
   -- Of types 2 to 7 without ranges, light vehicle carriers too, the bounds are the exact EEDI rounded down and up.
   module _ {f : Figures ℕ} (one : Stands-for (figures s) f) (cargo : figures s .ship .kind ≡ bulk → ⊥) (other : figures s .ship .kind ≡ general → ⊥) where
     pub new-rounded-down : (n : ℕ) → bounds below (index f) (n // 1000000) → n ≤ lower s
-    new-rounded-down = rounded-down t one (new-ship .method) other (f-c-full (figures s .ship .kind) (figures s .ship) new cargo)
+    new-rounded-down = rounded-down t one (new-ship .method) other (f-c-new (figures s .ship .kind) (figures s .ship) new cargo)
 
     pub new-rounded-up : (n : ℕ) → bounds above (index f) (n // 1000000) → upper s ≤ n
-    new-rounded-up = rounded-up t one (new-ship .method) other (f-c-full (figures s .ship .kind) (figures s .ship) new cargo)
+    new-rounded-up = rounded-up t one (new-ship .method) other (f-c-new (figures s .ship .kind) (figures s .ship) new cargo)
 
   -- She is accepted in every edition, so that what follows speaks of her in each.
   pub every-edition : (edition : ℕ) → edition ≤ 2 → Accepted-record (in-edition edition s)
