@@ -17,7 +17,7 @@ use Rattle.formula.specs.Formula.{_//_, Formula, below, above, bounds, Enclosed
 use Rattle.exact.specs.Ship.{Deadweight, Kind, Particulars, declared, bulk, general, IceClass, IB-or-IC, EEXI, EEDI-first, EEDI-amended, Figures}
 use Rattle.exact.specs.Ranges.{Range, low, high, Inside, Narrowed, Stands-for, most-favourable, least-favourable}
 use Rattle.formula.specs.Words.{whole, if}
-use Rattle.exact.specs.Index.{P-ME, f-c, f-i, f-l, strengthened, f-m, speed, index}
+use Rattle.exact.specs.Index.{P-ME, emission, f-c, f-i, f-l, strengthened, f-m, speed, index}
 use Rattle.formula.proofs.Formulas.{consistent}
 use Rattle.exact.proofs.Rules.{f-i-none, f-l-none, f-c-new}
 use Rattle.exact.proofs.Rules as rules
@@ -303,6 +303,11 @@ module _ {s : Ship} (t : Accepted-record s) (new : figures s .ship .edition ≡ 
   -- So P_ME of every engine, of every ship inside her ranges, is 75 % of MCR.
   pub new-power : {f : Figures ℕ} → Inside (figures s) f → Each (λ e. P-ME (e .mcr) (e .limit) ≡ 75 * e .mcr) (f .engines)
   new-power = editions.full-power new-ship
+
+  -- And no consumption that stands in for one counts: with any other number for 190 and 215 the emissions are the same.
+  pub no-stand-in : {f : Figures ℕ} → Inside (figures s) f → (x y : ℕ)
+      → Each (λ e. emission x (e .uses) ≡ emission y (e .uses)) (f .engines) × (emission x (f .auxiliary-uses) ≡ emission y (f .auxiliary-uses))
+  no-stand-in = editions.own-emissions new-ship
 
   -- Of types 2 to 7 without ranges, light vehicle carriers too, the bounds are the exact EEDI rounded down and up.
   module _ {f : Figures ℕ} (one : Stands-for (figures s) f) (cargo : figures s .ship .kind ≡ bulk → ⊥) (other : figures s .ship .kind ≡ general → ⊥) where

@@ -9,7 +9,7 @@ use borrow.Author.Tests.{le-ltb, ne-eqb}
 use lib.Dec.{eqb, ltb}
 use lib.ListN.{length, getD}
 use Rattle.exact.specs.Ship as exact
-use Rattle.exact.specs.Index.{P-ME, strengthened, f-m}
+use Rattle.exact.specs.Index.{P-ME, emission, strengthened, f-m}
 use Rattle.exact.specs.Ranges as ranges
 use Rattle.exact.specs.Ranges.{Range, within, Inside}
 use Rattle.exact.proofs.Rules.{P-ME-unlimited, f-m-other}
@@ -141,15 +141,30 @@ module _ (s : Ship) (none : refusal-of s ≡ refusal.None) (new : s .particulars
           edition-passed,
         )
 
--- P_ME of each of her engines is 75 % of MCR.
-full-powers : {es : List (exact.Engine Range)} {es' : List (exact.Engine ℕ)} → ranges.Engines within es es' → accepted.Each New-engine es
-    → accepted.Each (λ e. P-ME (e .mcr) (e .limit) ≡ 75 * e .mcr) es'
-full-powers ranges.no-more accepted.no-more = accepted.no-more
-full-powers (ranges.one-more {m = m} {limit = l} {c' = c'} h c r) (accepted.one-more n ns) =
-    accepted.one-more {x = record { mcr = m; limit = l; uses = c' }} (rw (n .unlimited) (P-ME-unlimited m)) (full-powers r ns)
+-- ── Every ship inside her ranges ────────────────────────────────────────────────────────────
 
+-- What follows for an engine inside, of each.
+each-inside : (P : exact.Engine Range → Type 0) (Q : exact.Engine ℕ → Type 0)
+    → ((n : Range) (m limit : ℕ) (c : exact.Consumption Range) (c' : exact.Consumption ℕ) → ranges.Uses within c c' → P (record { mcr = n; limit = limit; uses = c }) → Q (record { mcr = m; limit = limit; uses = c' }))
+    → {es : List (exact.Engine Range)} {es' : List (exact.Engine ℕ)} → ranges.Engines within es es' → accepted.Each P es → accepted.Each Q es'
+each-inside P Q f ranges.no-more accepted.no-more = accepted.no-more
+each-inside P Q f (ranges.one-more {n = n} {m = m} {limit = l} {c = c} {c' = c'} h u r) (accepted.one-more p ps) = accepted.one-more (f n m l c c' u p) (each-inside P Q f r ps)
+
+-- P_ME of each of her engines is 75 % of MCR.
 pub full-power : {r : exact.Figures Range} {f : exact.Figures ℕ} → New-ship r → Inside r f → accepted.Each (λ e. P-ME (e .mcr) (e .limit) ≡ 75 * e .mcr) (f .engines)
-full-power n (ranges.alike e c v) = full-powers e (n .engines)
+full-power new (ranges.alike e c v) =
+    each-inside New-engine (λ e. P-ME (e .mcr) (e .limit) ≡ 75 * e .mcr) (λ n m l c c' u p. rw (p .unlimited) (P-ME-unlimited m)) e (new .engines)
+
+-- No consumption is one that stands in.
+own-uses : {c : exact.Consumption Range} {c' : exact.Consumption ℕ} → ranges.Uses within c c' → Sourced c → (x y : ℕ) → emission x c' ≡ emission y c'
+unfolding emission
+own-uses (ranges.same-fuel h) s x y = refl
+own-uses ranges.no-source s x y = absurd s
+
+pub own-emissions : {r : exact.Figures Range} {f : exact.Figures ℕ} → New-ship r → Inside r f → (x y : ℕ)
+    → accepted.Each (λ e. emission x (e .uses) ≡ emission y (e .uses)) (f .engines) × (emission x (f .auxiliary-uses) ≡ emission y (f .auxiliary-uses))
+own-emissions new (ranges.alike e c v) x y =
+    (each-inside New-engine (λ e. emission x (e .uses) ≡ emission y (e .uses)) (λ n m l c c' u p. own-uses u (p .uses) x y) e (new .engines), own-uses c (new .auxiliary-uses) x y)
 
 -- ── The same ship in another ice class ──────────────────────────────────────────────────────
 
