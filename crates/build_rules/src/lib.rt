@@ -1,4 +1,4 @@
-// Rule 18, of the lightweight, the hull and the cranes that layout 2 adds; and whether any of it is there, which rule 16 asks of layout 1.
+// Rule 18, of the lightweight, the hull and the cranes; and whether anything that layout 2 adds is there, which rule 16 asks of layout 1.
 use ship::Build;
 use ship::Crane;
 use ship::Hull;
