@@ -145,7 +145,8 @@ module _ (s : Ship) (none : refusal-of s ≡ refusal.None) (new : s .particulars
 
 -- What follows for an engine inside, of each.
 each-inside : (P : exact.Engine Range → Type 0) (Q : exact.Engine ℕ → Type 0)
-    → ((n : Range) (m limit : ℕ) (c : exact.Consumption Range) (c' : exact.Consumption ℕ) → ranges.Uses within c c' → P (record { mcr = n; limit = limit; uses = c }) → Q (record { mcr = m; limit = limit; uses = c' }))
+    → ((n : Range) (m limit : ℕ) (c : exact.Consumption Range) (c' : exact.Consumption ℕ) → ranges.Uses within c c'
+    → P (record { mcr = n; limit = limit; uses = c }) → Q (record { mcr = m; limit = limit; uses = c' }))
     → {es : List (exact.Engine Range)} {es' : List (exact.Engine ℕ)} → ranges.Engines within es es' → accepted.Each P es → accepted.Each Q es'
 each-inside P Q f ranges.no-more accepted.no-more = accepted.no-more
 each-inside P Q f (ranges.one-more {n = n} {m = m} {limit = l} {c = c} {c' = c'} h u r) (accepted.one-more p ps) = accepted.one-more (f n m l c c' u p) (each-inside P Q f r ps)

@@ -25,11 +25,12 @@ returns c =
 returns-2 : tie.Need-returns-2
 unfolding build-from numbers-at added front cranes sizes
 returns-2 c =
-    let c3 = c .before .before .before .before in
+    let d = c .before .before .before in
+    let c3 = d .before in
     let g = c3 .before .before .before in
     λ i. record {
       lightweight = c .before .before .number-at5 .ensures i;
-      hull = record { volume = c3 .before .before .number-at .ensures i; length = c3 .before .number-at2 .ensures i; breadth = c3 .number-at3 .ensures i; draught = c .before .before .before .number-at4 .ensures i };
+      hull = record { volume = c3 .before .before .number-at .ensures i; length = c3 .before .number-at2 .ensures i; breadth = c3 .number-at3 .ensures i; draught = d .number-at4 .ensures i };
       cranes = c .before .number-at6 .ensures i;
       gear = g .gear-in .ensures i;
       edition = c .number-at7 .ensures i;
