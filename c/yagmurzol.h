@@ -11,12 +11,12 @@
  *   - it gives bounds or a refusal, never both and never neither;
  *   - with bounds the refusal is 0, the lower one is at most the upper one, the upper one is above 0, and both are below 2 to the 53rd;
  *   - with a refusal both bounds are 0;
- *   - a length other than 512 is refusal 1, and 0 is too, with which `block` may be a null pointer;
+ *   - every length other than 512 is refusal 1; with length 0 `block` may be a null pointer;
  *   - a double is exactly the whole number that the whole bound is.
  * No call changes a byte, keeps anything until the next, or needs memory other than its stack. So several threads may call at once.
  * Asked of the caller is what C asks of any pointer and length: that so many bytes can be read there.
  *
- * The library is target/staticlib/libhull.a, made by `rt staticlib hull`, for x86-64 programs under Linux. */
+ * The library is target/staticlib/libhull.a, made by `rt staticlib hull`, for x86-64 programs and shared objects under Linux. */
 #ifndef YAGMURZOL_H
 #define YAGMURZOL_H
 
@@ -66,7 +66,8 @@ struct yagmurzol_pair {
     double upper;
 };
 
-/* A whole answer: the refusal's number, one of enum yagmurzol_reason; the bounds as whole numbers; and as doubles. */
+/* A whole answer: the refusal's number, one of enum yagmurzol_reason; the bounds as whole numbers; and as doubles. The bytes between
+   the number and the lower bound mean nothing: compare answers part by part. */
 struct yagmurzol_answer {
     uint8_t refusal;
     uint64_t lower;

@@ -166,6 +166,9 @@ fn break_type(block: &mut Block, random: &mut Random) {
     }
 }
 
+// The three ways to break rule 18, as one type: rustc 1.63 doesn't find it by itself.
+const BREAK_BUILD: [fn(&mut Block, &mut Random); 3] = [break_lightweight, break_cranes, break_hull];
+
 // Breaks rule 3 to 16, 18 or 19; rule 2 is broken after sealing, rule 1 by cutting the file.
 fn break_rule(block: &mut Block, random: &mut Random, rule: u64, no_layout: &[u64]) {
     let imo = get(block, IMO);
@@ -182,7 +185,7 @@ fn break_rule(block: &mut Block, random: &mut Random, rule: u64, no_layout: &[u6
         14 => break_range(block, random),
         15 => break_trial(block, random),
         16 => break_zeros(block, random),
-        18 => random.pick(&[break_lightweight, break_cranes, break_hull])(block, random),
+        18 => random.pick(&BREAK_BUILD)(block, random),
         _ => break_edition(block, random),
     }
 }
