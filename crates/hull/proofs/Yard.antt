@@ -10,25 +10,23 @@ use lib.Dec.{T, eqb}
 use lib.ListN.{length}
 use lib.Ieee.{Float, binary64, fits}
 use borrow.Author.Tests.{eqb-true, eqb-false}
+use Rattle.formula.specs.Formula.{_//_, Enclosed}
 use Rattle.formula.proofs.Formulas.{consistent}
+use Rattle.exact.specs.Ship.{Figures}
+use Rattle.exact.specs.Ranges.{Inside}
+use Rattle.exact.specs.Index.{index}
+use Rattle.ship.specs.Figures.{figures}
 use Rattle.ship.specs.Refusals.{number-of}
 use Rattle.ship.specs.declared.Refusal.the-variants.{None}
-use Rattle.ship.specs.declared.Ship.{Ship}
 use Rattle.ship.proofs.Order.{none}
-use Rattle.block.specs.Answers.{read-refusal}
+use Rattle.block.specs.Answers.{read-refusal, read-of}
 use Rattle.index.specs.declared.Index.{Index}
-use Rattle.desk.specs.Answers.{answer-of-block, number-in, Accepted-record, lower, upper}
+use Rattle.desk.specs.Answers.{answer-of-block, number-in}
 use Rattle.desk.specs.declared.Answer.the-variants.{Bounds}
 use Rattle.desk.proofs.Demands as demands
 use Rattle.hull.specs.Yard.{Exactly, found-of, found-in, found, empty-pair}
 use Rattle.hull.specs.declared.Pair.{Pair}
 use Rattle.hull.proofs.Doubles as doubles
-
--- The bounds of an accepted record are in order: her most favourable ship is inside her ranges, and both enclose that ship's index.
-record-ordered : {s : Ship} → Accepted-record s → lower s ≤ upper s
-record-ordered t =
-    let e = demands.inside t (demands.records-inside (demands.ends-narrower false t) .0) in
-    omega (arith, consistent _ (e .low) (e .high) .cross)
 
 module _ (b : List ℕ) where
   numbered : number-in (answer-of-block b) ≡ number-of (read-refusal b)
@@ -42,7 +40,7 @@ module _ (b : List ℕ) where
       go true e = inl (none _ (eqb-true (number-of (read-refusal b)) 0 e))
       go false e = inr (λ h. eqb-false (number-of (read-refusal b)) 0 e (ap number-of h))
 
-  -- Both bounds are below 2^53, and in order.
+  -- Both bounds are below 2^53.
   pub small : (found b .lower < 2 ^ 53) × (found b .upper < 2 ^ 53)
   small =
       ⊎-elim
@@ -52,13 +50,6 @@ module _ (b : List ℕ) where
 
   pub small-bounds : (i : Index) → Bounds i ≡ answer-of-block b → (i .lower < 2 ^ 53) × (i .upper < 2 ^ 53)
   small-bounds i e = rw (sym e) at small
-
-  pub ordered : found b .lower ≤ found b .upper
-  ordered =
-      ⊎-elim
-      (λ e. rw (demands.block-as-record b e) (record-ordered (demands.block-record-accepted b e)))
-      (λ h. omega (arith, demands.block-no-bound b h .0))
-      either
 
   -- Each double is exactly the whole number found, and no other double is.
   pub exact : Exactly (found b .pair .lower) (found b .lower)
@@ -74,14 +65,28 @@ module _ (b : List ℕ) where
   pub refused : (found b .refusal ≡ 0 → ⊥) → found b ≡ found-of (number-of (read-refusal b)) 0 0
   refused h = ap found-in (demands.block-refused b (λ e. h (numbered ∙ ap number-of e)))
 
-  -- Without one the upper bound is above 0.
-  pub bounded : found b .refusal ≡ 0 → 0 < found b .upper
-  bounded h = above (none _ (sym numbered ∙ h))
-    where
-      above : read-refusal b ≡ None → 0 < found b .upper
-      above e = rw (demands.block-as-record b e) (demands.bounds-some (demands.block-record-accepted b e))
+  -- Without one the bytes are those of an accepted record, and the answer is hers.
+  accepted : found b .refusal ≡ 0 → read-refusal b ≡ None
+  accepted h = none _ (sym numbered ∙ h)
 
-  -- So the empty pair goes with a refusal, and only with one.
+  -- Every ship inside her ranges has her exact index between the bounds; and the upper one is above 0.
+  pub encloses : {f : Figures ℕ} → found b .refusal ≡ 0 → Inside (figures (read-of b .ship)) f
+      → Enclosed (index f) (found b .lower // 1000000) (found b .upper // 1000000)
+  encloses h i = rw (demands.block-as-record b (accepted h)) (demands.inside (demands.block-record-accepted b (accepted h)) i)
+
+  pub bounded : found b .refusal ≡ 0 → 0 < found b .upper
+  bounded h = rw (demands.block-as-record b (accepted h)) (demands.bounds-some (demands.block-record-accepted b (accepted h)))
+
+  -- So the bounds are in order: her most favourable ship is inside.
+  pub ordered : found b .lower ≤ found b .upper
+  ordered = ⊎-elim (λ e. between (numbered ∙ ap number-of e)) (λ h. omega (arith, demands.block-no-bound b h .0)) either
+    where
+      between : found b .refusal ≡ 0 → found b .lower ≤ found b .upper
+      between h =
+          let inside = demands.records-inside (demands.ends-narrower false (demands.block-record-accepted b (accepted h))) .0 in
+          omega (arith, consistent _ (encloses h inside .low) (encloses h inside .high) .cross)
+
+  -- The empty pair goes with a refusal, and only with one.
   pub empty-pair-refused : (found b .refusal ≡ 0 → ⊥) ↔ found b .pair ≡ empty-pair
   empty-pair-refused = (λ h. ap (λ r. r .pair) (refused h) ∙ ap zeros (sym doubles.zero-is), alone)
     where
