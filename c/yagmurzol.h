@@ -2,8 +2,8 @@
  *
  * A ship is lent as `length` bytes from `block` on; a block of docs/RULES.md is 512. The answer is
  *   - one refusal by its number, that of the first rule broken; or
- *   - the two bounds of her attained index, EEXI or, of a new ship, EEDI: the exact index is at least the lower bound and at most
- *     the upper one.
+ *   - the two bounds of her attained index, EEXI or, of a new ship, EEDI: the exact index, that of every ship inside her ranges where
+ *     she has any, is at least the lower bound and at most the upper one.
  * Bounds are counted in millionths of a gram of CO2 per tonne and nautical mile: 5170857 is 5.170857 g CO2/(t nm).
  *
  * Every call promises, whatever the length and the bytes are, and crates/hull proves:

@@ -164,7 +164,7 @@ module _ {s : Ship} {f : Figures ℕ} (t : Accepted-record s) (one : Stands-for 
   speed-enclosed = rw (stands-most one) at (law.speed-is false (ranges-kept t))
 
 -- What encloses one index is in order.
-in-order : {e : Formula} {n m : ℕ} → Enclosed e (n // 1000000) (m // 1000000) → n ≤ m
+pub in-order : {e : Formula} {n m : ℕ} → Enclosed e (n // 1000000) (m // 1000000) → n ≤ m
 in-order {e} h = omega (arith, consistent e (h .low) (h .high) .cross)
 
 -- Both bounds are below 2^53.

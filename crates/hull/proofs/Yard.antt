@@ -11,7 +11,6 @@ use lib.ListN.{length}
 use lib.Ieee.{Float, binary64, fits}
 use borrow.Author.Tests.{eqb-true, eqb-false}
 use Rattle.formula.specs.Formula.{_//_, Enclosed}
-use Rattle.formula.proofs.Formulas.{consistent}
 use Rattle.exact.specs.Ship.{Figures}
 use Rattle.exact.specs.Ranges.{Inside}
 use Rattle.exact.specs.Index.{index}
@@ -84,7 +83,7 @@ module _ (b : List ℕ) where
       between : found b .refusal ≡ 0 → found b .lower ≤ found b .upper
       between h =
           let inside = demands.records-inside (demands.ends-narrower false (demands.block-record-accepted b (accepted h))) .0 in
-          omega (arith, consistent _ (encloses h inside .low) (encloses h inside .high) .cross)
+          demands.in-order (encloses h inside)
 
   -- The empty pair goes with a refusal, and only with one.
   pub empty-pair-refused : (found b .refusal ≡ 0 → ⊥) ↔ found b .pair ≡ empty-pair

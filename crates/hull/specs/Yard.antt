@@ -11,7 +11,7 @@ use Rattle.desk.specs.declared.Answer.{Answer}
 use Rattle.hull.specs.declared.Pair.{Pair}
 use Rattle.hull.specs.declared.Found.{Found}
 
--- A double is exactly the whole number n: finite, not negative, and n / 1 in size.
+-- A double is exactly the whole number n: finite, with no minus, and n over 1 in size.
 unfoldable pub Exactly : Float → ℕ → Type 0
 Exactly x n = HasValue x false n 1
 
@@ -33,7 +33,7 @@ abbrev pub found : List ℕ → Found
 found b = found-in (answer-of-block b)
 
 -- The empty pair: two zeros, neither of them negative.
-abbrev zero-double : Float
+abbrev pub zero-double : Float
 zero-double = fin false 0 (pos 0)
 
 abbrev pub empty-pair : Pair

@@ -3,7 +3,7 @@ use desk::Answer;
 ghost use mathlib.Core.Path.{_≡_};
 ghost use Prim.Native.Nat.{_<_, _^_};
 ghost use Rattle.desk.specs.Answers.{answer-of-block, number-in, lower-in, upper-in};
-ghost use Rattle.hull.specs.Yard.{doubles-of, found-of, found-in};
+ghost use Rattle.hull.specs.Yard.{found-of, found-in};
 
 // The two bounds as doubles, each a whole number of millionths.
 #[repr(C)]
@@ -75,7 +75,7 @@ pub extern "C" fn yagmurzol_upper(block: &[u8]) -> u64
 
 #[no_mangle]
 pub extern "C" fn yagmurzol_doubles(block: &[u8]) -> Pair
-    ensures { λ r. ⌜ r ≡ doubles-of (lower-in (answer-of-block (now (block .entry)))) (upper-in (answer-of-block (now (block .entry)))) ⌝ }
+    ensures { λ r. ⌜ r ≡ found-in (answer-of-block (now (block .entry))) .pair ⌝ }
 {
     let all = yagmurzol_ask(block);
     all.pair
