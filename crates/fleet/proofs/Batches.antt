@@ -1,13 +1,17 @@
 -- Laws of the batches.
 -- Assumes nothing.
 use Prim.Native.Nat.{ℕ, _+_}
-use mathlib.Core.Path.{_≡_, refl}
+use mathlib.Core.Path.{_≡_, refl, sym, ap, _∙_}
 use mathlib.Core.List.{List, _++_}
 use mathlib.Core.Bool.{Bool, true, false, _&&_}
 use native.Mathlib.Omega.{arith}
 use borrow.Author.Tests.{ltb-true}
-use lib.Dec.{eqb}
-use lib.ListN.{length}
+use lib.Dec.{ltb}
+use lib.ListN.{length, take}
+use lib.Seq.{take-take}
+use Rattle.streams.specs.declared.Got.{Got}
+use Rattle.streams.specs.Streams.{Filled, answered-of}
+use Rattle.streams.proofs.Reading.{answered-within}
 use Rattle.lines.specs.Lines.{lines-of}
 use Rattle.lines.proofs.Files.{lines-append}
 use Rattle.fleet.specs.declared.Batch.{Batch}
@@ -15,7 +19,7 @@ use Rattle.fleet.specs.Batches.{batch-after, Begun, Follows}
 
 -- The lines of a whole batch and of the batches after it are together the lines of the file.
 pub batches-join : (b : Batch) (whole rest : List ℕ) → length whole ≡ 65536
-    → lines-of (b .first) (whole ++ rest) ≡ lines-of (b .first) whole ++ lines-of (batch-after b 65536 .first) rest
+    → lines-of (b .first) (whole ++ rest) ≡ lines-of (b .first) whole ++ lines-of (batch-after b true .first) rest
 unfolding batch-after
 batches-join b whole rest h = lines-append (b .first) 128 whole rest h
 
@@ -26,12 +30,30 @@ begun-next {b} {r} h f m =
     let l = ltb-true (b .first + 128) 65536 (f .allowed m) in
     record { multiple = omega arith; below = omega arith }
 
--- What comes after a batch may follow it, and so may a stop where its lines were not written.
-pub follows-step : (b n : Batch) (got : ℕ) (written : Bool) → n ≡ batch-after b got → Follows b (record { first = n .first; more = written && n .more })
+pub after-is : (b : Batch) {t going : Bool} → t ≡ going → record { first = b .first + 128; more = t && ltb (b .first + 128) 65536 } ≡ batch-after b going
 unfolding batch-after
-follows-step b n got written e = rw e (record { numbered = refl; allowed = last written (eqb got 65536) _ })
+after-is b e = rw e
+
+-- What comes after a batch may follow it, and so may a stop where its lines were not written.
+pub follows-step : (b n : Batch) (going written : Bool) → n ≡ batch-after b going → Follows b (record { first = n .first; more = written && n .more })
+unfolding batch-after
+follows-step b n going written e = rw e (record { numbered = refl; allowed = last written going _ })
   where
     last : (x y z : Bool) → x && (y && z) ≡ true → z ≡ true
     last true true z h = h
     last true false z h = cc
     last false y z h = cc
+
+-- ── What was read ───────────────────────────────────────────────────────────────────────────
+
+-- A batch's lines depend on no byte of the buffer but those that were read.
+pub read-alone : (b : Batch) (g : Got) (x y : List ℕ) → take (g .count) x ≡ take (g .count) y
+    → lines-of (b .first) (take (answered-of g) x) ≡ lines-of (b .first) (take (answered-of g) y)
+read-alone b g x y e =
+    let h = answered-within g in
+    ap (lines-of (b .first)) (sym (take-take (answered-of g) (g .count) x h) ∙ ap (take (answered-of g)) e ∙ take-take (answered-of g) (g .count) y h)
+
+-- After a read that failed there is no batch.
+pub failed-last : (b : Batch) (g : Got) → Filled 65536 g → g .failed ≡ true → batch-after b (g .going) .more ≡ false
+unfolding batch-after
+failed-last b g f h = rw (f .last h)

@@ -1,9 +1,10 @@
 // The desk's program: a line for each block of standard input.
-use libc::STDIN_FILENO;
-use libc::STDOUT_FILENO;
+use libc::STDERR_FILENO;
+use streams::Got;
 ghost use mathlib.Core.Path.{_≡_};
 ghost use Prim.Native.Nat.{_≤_};
 ghost use lib.ListN.{length, take};
+ghost use Rattle.streams.specs.Streams.{Filled, answered-of};
 ghost use Rattle.lines.specs.Lines.{lines-of};
 ghost use Rattle.fleet.specs.Batches.{first-batch, batch-after, Begun, Follows};
 
@@ -28,40 +29,44 @@ fn start() -> Batch
     }
 }
 
-// The lines of a batch, whose blocks are the first `got` bytes of `blocks`, and the batch after it. No input or output is done here,
-// so the contract says all of it. 84 bytes are the longest line, so there is room for 128.
-fn put_batch(text: &mut [u8], batch: Batch, blocks: &[u8], got: usize) -> Step
+// The lines of a batch, of what was read of its blocks, and the batch after it. No input or output is done here, so the contract says
+// all of it: no byte counts that wasn't read. 84 bytes are the longest line, so there is room for 128.
+fn put_batch(text: &mut [u8], batch: Batch, blocks: &[u8], got: Got) -> Step
     requires { ⌜ length (now text) ≡ 10752 ⌝ }
-    requires { ⌜ (length (now blocks) ≡ 65536) × (got ≤ 65536) ⌝ }
+    requires { ⌜ (length (now blocks) ≡ 65536) × Filled 65536 got ⌝ }
     requires { ⌜ Begun batch ⌝ }
     ensures { λ r. ⌜ (r .end ≤ length (now (text .exit))) × (r .end ≡ length (take (r .end) (now (text .exit)))) ⌝ }
-    ensures { λ r. ⌜ take (r .end) (now (text .exit)) ≡ lines-of (batch .first) (take got (now (blocks .entry))) ⌝ }
-    ensures { λ r. ⌜ r .next ≡ batch-after batch got ⌝ }
+    ensures { λ r. ⌜ take (r .end) (now (text .exit)) ≡ lines-of (batch .first) (take (answered-of got) (now (blocks .entry))) ⌝ }
+    ensures { λ r. ⌜ r .next ≡ batch-after batch (got .going) ⌝ }
 {
     let first = batch.first;
     let after = first + 128;
-    let more = (got == 65536) & (after < 65536);
-    let end = lines::put_lines(text, first, &blocks[..got]);
+    let more = streams::is_going(got) & (after < 65536);
+    let answered = streams::answered(got);
+    let end = lines::put_lines(text, first, &blocks[..answered]);
     Step {
         end,
         next: Batch { first: after, more },
     }
 }
 
-// Reads a batch and writes its lines in one write; answers what comes after it, which is nothing where the write fails.
+// Reads a batch, writes its lines in one write and says what failed; answers what comes after it, which is nothing where a side failed.
 fn next(batch: Batch) -> Batch
     requires { ⌜ Begun batch ⌝ }
     ensures { λ r. ⌜ Follows batch r ⌝ }
 {
     let mut blocks = [0u8; 65536];
-    let got = io::read_full(STDIN_FILENO, &mut blocks);
+    let got = streams::fill(&mut blocks);
     let mut text = [0u8; 10752];
     let step = put_batch(&mut text, batch, &blocks, got);
     let end = step.end;
-    let written = io::write_all(STDOUT_FILENO, &text[..end]);
+    let sent = streams::send(&text[..end]);
+    let mut complaint = [0u8; 36];
+    let said = streams::put_complaint(&mut complaint, b"fleet", got, sent);
+    io::write_all(STDERR_FILENO, &complaint[..said]);
     Batch {
         first: step.next.first,
-        more: written & step.next.more,
+        more: sent.all & step.next.more,
     }
 }
 

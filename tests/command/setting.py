@@ -1,0 +1,71 @@
+"""What every case needs: the desk's folder, a room for files, the program's command, the independent desk and its pool of blocks."""
+import os
+import pathlib
+import random
+import shutil
+import stat
+import subprocess
+
+import blocks
+from started import run
+
+ROOT = pathlib.Path(__file__).resolve().parents[2]
+
+
+class Setting:
+    def __init__(self, room):
+        self.root, self.room = ROOT, pathlib.Path(room)
+        # Another user has to come in where no permission is tested.
+        self.room.chmod(0o755)
+        words = subprocess.run([ROOT / "bin" / "with-kit", "--words", "fleet"], stdout=subprocess.PIPE, check=True).stdout
+        self.fleet = os.fsdecode(words).splitlines()
+        loader = pathlib.Path(self.fleet[self.fleet.index("--library-path") - 1])
+        self.kit = str(loader.parents[4])
+        self.independent = blocks.Desk(ROOT, self.room)
+        self.pool = self.independent.pool()
+        self.accepted = self.pool.accepted()
+        self.files = 0
+
+    def file(self, data, name=None):
+        """A file in the room; its path, from which its name may be taken."""
+        self.files += 1
+        path = pathlib.Path(os.fsdecode(os.path.join(os.fsencode(self.room), os.fsencode(name or f"{self.files}.blocks"))))
+        path.write_bytes(data)
+        return path
+
+    def order(self, count, seed=1, refusals=True):
+        """So many places of the pool, any of them, or with bounds alone."""
+        return random.Random(seed).choices(range(len(self.pool.pieces)) if refusals else self.accepted, k=count)
+
+    def some(self, count, rest=0, refusals=True, seed=1):
+        """So many blocks of the pool and a piece of another: bytes, and the lines plain and for people."""
+        order = self.order(count, seed, refusals)
+        data = self.pool.data(order) + self.pool.pieces[0][:rest]
+        plain, people = self.pool.lines(order, True), self.pool.lines(order)
+        if rest:
+            plain += f"{count} refused 1\n".encode()
+            people += self.broken_off(count)
+        return data, plain, people
+
+    def broken_off(self, number):
+        field, words = self.independent.table[1]
+        return f"block {number}: refused 1 ({field}): {words}\n".encode()
+
+    def desk(self, *words, given=None, root=None, env=None, **more):
+        """bin/desk with these words; the kit is named, so that it needn't be looked for each time."""
+        return run([(root or self.root) / "bin" / "desk", *words], given, env={"RATTLE_HOME": self.kit, **(env or {})}, **more)
+
+    def copy(self, name, program=True):
+        """A folder with the command in it, readable to all, and with the program or without."""
+        root = self.room / name
+        shutil.copytree(ROOT / "bin", root / "bin", symlinks=True)
+        if program:
+            (root / "target" / "bin").mkdir(parents=True)
+            shutil.copy(ROOT / "target" / "bin" / "fleet", root / "target" / "bin" / "fleet")
+        for path in [root, *root.rglob("*")]:
+            path.chmod(path.stat().st_mode | stat.S_IRGRP | stat.S_IROTH | (0o111 if path.is_dir() else 0))
+        return root
+
+
+def heading(name):
+    return b"==> " + os.fsencode(name) + b" <==\n"

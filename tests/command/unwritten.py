@@ -1,0 +1,87 @@
+"""bin/desk where its lines can't be written, or nobody reads them any more."""
+import signal
+
+from alone import Reading
+from hold import faults, said
+from started import Leaving, Written, at_most, closed, ignoring
+
+LONG = 200000
+
+
+def cannot(reason):
+    return said(f"desk: standard output: {reason}")
+
+
+def full(place):
+    """Nothing more is done after the first write that fails: the name that isn't there is no longer looked for."""
+    data, _, _ = place.some(300)
+    path = place.file(data)
+    for name, words in (("a full disk", ["fleet", path]), ("a full disk, plain", ["fleet", "--plain", path]), ("a full disk, two files", ["fleet", path, path]),
+                        ("help on a full disk", ["--help"]), ("the version on a full disk", ["--version"])):
+        ran = place.desk(*words, out=Written("/dev/full"))
+        yield f"desk, {name}", faults(ran, b"", cannot("No space left on device"), 2)
+    yield "desk, a full disk, by pipe", faults(place.desk("fleet", given=data, out=Written("/dev/full")), b"", cannot("No space left on device"), 2)
+    ran = place.desk("fleet", given=place.some(70000, refusals=False)[0], out=Written("/dev/full"))
+    yield "desk, a full disk, 70,000 blocks", faults(ran, b"", cannot("No space left on device"), 2)
+    yield "desk, a full disk and nothing to write", faults(place.desk("fleet", given=b"", out=Written("/dev/full")), b"")
+
+
+def no_output(place):
+    data, _, _ = place.some(3)
+    for words in (["fleet"], ["fleet", "--plain"], ["--help"], ["--version"]):
+        ran = place.desk(*words, given=data, before=(closed(1),))
+        yield f"desk, standard output is closed, {words}", faults(ran, b"", cannot("Bad file descriptor"), 2)
+    path = place.file(data)
+    ran = place.desk("fleet", path, path, before=(closed(0), closed(1)))
+    yield "desk, standard input and output are closed", faults(ran, b"", cannot("Bad file descriptor"), 2)
+    ran = place.desk("fleet", given=data, out=Reading())
+    yield "desk, standard output is for reading alone", faults(ran, b"", cannot("Bad file descriptor"), 2)
+
+
+def little_room(place):
+    """What stands in the file is a beginning of the right lines."""
+    data, plain, people = place.some(300)
+    path = place.file(data)
+    for words, right in ((["fleet"], people), (["fleet", "--plain"], plain)):
+        for size in (1, 1000, 4096, len(right) - 1):
+            ran = place.desk(*words, path, out=Written(place.room / f"room {len(right)} {size}"), before=(at_most(size),))
+            yield f"desk, a disk with room for {size} bytes, {words}", faults(ran, right[:size], cannot("File too large"), 2)
+        ran = place.desk(*words, path, out=Written(place.room / f"room {len(right)}"), before=(at_most(len(right)),))
+        yield f"desk, a disk with just enough room, {words}", faults(ran, right, status=1)
+
+
+def little_room_late(place):
+    """In a later part of a long file, after more than ten million bytes of lines."""
+    data, _, people = place.some(LONG, seed=4)
+    size = 10 ** 7 + 1
+    ran = place.desk("fleet", given=data, out=Written(place.room / "long"), before=(at_most(size),))
+    yield "desk, a disk that is full in a later part", faults(ran, people[:size], cannot("File too large"), 2)
+
+
+def reader_goes(place):
+    """Quietly, with status 141, whether or not the signal for it is ignored; what was read is right. That nobody is left running a
+    second later is held with every run."""
+    data, plain, people = place.some(LONG, seed=5)
+    path = place.file(data)
+    for words, right in ((["fleet"], people.splitlines(True)), (["fleet", "--plain"], plain.splitlines(True))):
+        for lines in (0, 1, 100000):
+            for name, before in (("", ()), (", signal ignored", (ignoring(signal.SIGPIPE),))):
+                given = {"given": data} if lines == 1 else {}
+                ran = place.desk(*words, *([] if given else [path]), **given, out=Leaving(lines), before=before)
+                yield f"desk, the reader goes after {lines} lines{name}, {words}", faults(ran, b"".join(right[:lines]), b"", 141)
+
+
+def reader_goes_early(place):
+    """From a short run too, whose lines would all fit into the pipe, and from the command's own words."""
+    path = place.file(place.some(3)[0])
+    for words in (["fleet", path], ["fleet", "--plain", path], ["fleet", path, path], ["--help"], ["--version"]):
+        for name, before in (("", ()), (", signal ignored", (ignoring(signal.SIGPIPE),))):
+            ran = place.desk(*words, out=Leaving(0), before=before)
+            yield f"desk, nobody reads {words[0]} {len(words)}{name}", faults(ran, b"", b"", 141)
+    ran = place.desk("fleet", path, "nowhere", out=Leaving(0))
+    yield "desk, nobody reads, and a name that isn't there", faults(ran, b"", b"", 141)
+
+
+def cases(place):
+    for part in (full, no_output, little_room, little_room_late, reader_goes, reader_goes_early):
+        yield from part(place)
