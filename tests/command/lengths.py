@@ -5,10 +5,9 @@ import time
 
 from blocks import BLOCK, MOST
 from hold import faults, first_difference
-from setting import heading
+from setting import LONG, heading
 from started import on_one_processor
 
-LONG = 200000
 PAUSE = 1.0
 
 
@@ -19,7 +18,7 @@ def broken_off(place):
     name = place.room / "a named pipe"
     os.mkfifo(name)
     for words, right in (([name], people), (["--plain", name], plain)):
-        writer = threading.Thread(target=lambda: name.write_bytes(data))
+        writer = threading.Thread(target=lambda: name.write_bytes(data), daemon=True)
         writer.start()
         yield f"desk, a named pipe whose writer stops within a block, {len(words)}", faults(place.desk("fleet", *words), right, status=1)
         writer.join(1)
@@ -104,19 +103,13 @@ def append(path, data, stop):
 
 def long_files(place):
     """200,000 blocks by name, by pipe and by <, for people and plain, each line held."""
-    for refusals in (True, False):
-        order = place.order(LONG, 11, refusals)
-        data = place.pool.data(order)
-        path = place.file(data)
-        for plain in ([], ["--plain"]):
-            right = place.pool.lines(order, bool(plain))
-            ways = {"by name": ([path], None), "by pipe": ([], data), "by <": ([], path)}
-            for name, (words, given) in ways.items():
-                # Without refusals the status is 0; once by each way is enough of that.
-                if refusals or (name == "by name") == bool(plain):
-                    ran = place.desk("fleet", *plain, *words, given=given)
-                    yield f"desk, {LONG} blocks {name}, refusals {refusals}, {plain}", faults(ran, right, status=int(refusals))
-        path.unlink()
+    data, plain, people = place.long
+    path = place.file(data)
+    for name, words, given in (("by name", [path], None), ("by pipe", [], data), ("by <", [], path)):
+        yield f"desk, {LONG} blocks {name}", faults(place.desk("fleet", *words, given=given), people, status=1)
+        yield f"desk, {LONG} blocks {name}, plain", faults(place.desk("fleet", "--plain", *words, given=given), plain, status=1)
+    data, _, people = place.some(LONG, refusals=False)
+    yield f"desk, {LONG} blocks without refusals", faults(place.desk("fleet", given=data), people)
 
 
 def at_the_edge(place):
@@ -133,6 +126,17 @@ def at_the_edge(place):
     yield "desk, two long files", faults(place.desk("fleet", path, path), 2 * (heading(path) + people))
     yield "desk, two long files, plain", faults(place.desk("fleet", "--plain", path, path), 2 * plain)
     yield "desk, a long file on one processor", faults(place.desk("fleet", path, before=(on_one_processor,)), people)
+
+
+def self_check(place):
+    """Of a file that grew: a line lost, another's line, half a block that isn't the last, and too few lines are noticed."""
+    order = place.order(5)
+    lines, half = place.pool.lines(order, True).splitlines(True), b"4 refused 1\n"
+    fault = grown(place, order, 3, True)
+    right = [lines[:3], lines, lines[:4] + [half]]
+    wrong = [lines[:2], lines[:3] + lines[4:], lines[:3] + [b"3" + lines[4][1:]], lines[:3] + [b"3 refused 1\n", half], lines[:4] + [lines[4][:-2]]]
+    unseen = ["that a file grew"] if any(fault(b"".join(good)) for good in right) else []
+    return unseen + [f"that {bad} is wrong" for bad in wrong if not fault(b"".join(bad))]
 
 
 def cases(place):

@@ -2,7 +2,7 @@
 import os
 import re
 
-from hold import either, faults
+from hold import brief, either, faults
 from setting import heading
 from started import run
 
@@ -24,6 +24,7 @@ def inputs(place):
     for name, words, given in (("no FILE", [], data), ("no FILE, a file by <", [], path), ("-", ["-"], data), ("--", ["--"], data),
                                ("one file", [path], None), ("-- and one file", ["--", path], None)):
         yield f"desk, {name}", faults(place.desk("fleet", *words, given=given), people)
+    for name, words, given in (("no FILE", [], data), ("-", ["-"], data), ("one file", [path], None), ("-- and one file", ["--", path], None)):
         yield f"desk, {name}, plain", faults(place.desk("fleet", "--plain", *words, given=given), plain)
 
 
@@ -57,7 +58,7 @@ def empty_and_cut(place):
     yield "desk, an empty file", faults(place.desk("fleet", empty), b"")
     yield "desk, an empty file, plain", faults(place.desk("fleet", "--plain", empty), b"")
     yield "desk, empty input", faults(place.desk("fleet", given=b""), b"")
-    for count, rest in ((0, 1), (0, 511), (2, 1), (2, 256), (128, 511)):
+    for count, rest in ((0, 1), (2, 256), (128, 511)):
         data, plain, people = place.some(count, rest, refusals=False)
         yield f"desk, {count} blocks and {rest} bytes", faults(place.desk("fleet", place.file(data)), people, status=1)
         yield f"desk, {count} blocks and {rest} bytes, plain", faults(place.desk("fleet", "--plain", given=data), plain, status=1)
@@ -80,18 +81,21 @@ def names(place):
     yield "desk, names that aren't there", faults(place.desk("fleet", "--", *gone, cwd=folder), b"", told, 2)
     for name in OTHERS:
         (folder / os.fsdecode(name)).write_bytes(data)
-        yield f"desk, the name {name!r}", faults(place.desk("fleet", "--", os.fsdecode(name), "two words", cwd=folder), escaped(people))
+    ran = place.desk("fleet", *map(os.fsdecode, OTHERS), cwd=folder)
+    yield "desk, names with other characters that can't be printed", faults(ran, escaped(len(OTHERS), people))
 
 
-def escaped(people):
-    """A heading between whose a and b stands a backslash with letters and digits, and nothing else; then the lines."""
-    rest = people + heading("two words") + people
+def escaped(count, people):
+    """So many times a heading between whose a and b stands a backslash with letters and digits, and nothing else; then the lines."""
+    pattern = re.compile(rb"(==> a(\\[A-Za-z0-9{}+]+)+b <==\n" + re.escape(people) + rb"){%d}" % count)
+    return lambda came: None if pattern.fullmatch(came) else f"other headings or lines in {brief(came)}"
 
-    def fault(came):
-        first, _, after = came.partition(b"\n")
-        good = re.fullmatch(rb"==> a(\\[A-Za-z0-9{}+]+)+b <==", first)
-        return None if good and after == rest else f"it begins with {came[:80]!r}"
-    return fault
+
+def self_check(place):
+    """A name that is shown as it is, a heading that is lost, and another line are noticed."""
+    fault, good = escaped(2, b"x\n"), b"==> a\\tb <==\nx\n==> a\\xc2\\x85b <==\nx\n"
+    wrong = [good.replace(b"\\t", b"\t"), good.replace(b"\\t", b""), good[:-2], b"==> a\\tb <==\nx\n", good.replace(b"\\x85", b"\x85")]
+    return ["that names are right"] * bool(fault(good)) + [f"that {bad} is wrong" for bad in wrong if not fault(bad)]
 
 
 def places(place):

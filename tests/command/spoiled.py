@@ -33,7 +33,7 @@ SPOILS = {
     "says half a line at the end": "lines[-1] = lines[-1][:-9]", "leaves out the last line break": "lines[-1] = lines[-1][:-1]",
     "leaves out a line break": "lines[2] = lines[2][:-1]", "leaves a line empty": "lines[2] = b'\\n'",
     "leaves out a bound": "lines[2] = b'2 9074729 5170857\\n'", "says words for figures": "lines[2] = b'2 9074729 some more\\n'",
-    "refuses by no number": "lines[2] = b'2 refused\\n'", "refuses by a number that isn't there": "lines[2] = b'2 refused 20\\n'",
+    "refuses by no number": "lines[2] = b'2 refused\\n'",
     "says what is no text": "lines[2] = b'2 \\xff\\xfe 1 2\\n'",
     "says something on standard error": "message = 'fleet: cannot write standard output\\n'",
     "ends by a signal": "ended_by = signal.SIGKILL", "ends by the signal of a closed pipe": "ended_by = signal.SIGPIPE",
@@ -66,6 +66,7 @@ def short(place):
     for name, spoil in SPOILS.items():
         ran = place.desk("fleet", given=data, env=kit(place, name, spoil))
         yield f"desk, a program that {name}", faults(ran, beginning(people, whole=True), said("desk: .+"), 2)
+    for name in ("loses a line", "doubles a line", "says another number", "says half a line at the end", "ends with a status"):
         ran = place.desk("fleet", "--plain", place.file(data), env={"RATTLE_HOME": str(place.room / "kits" / name)})
         yield f"desk, a program that {name}, plain", faults(ran, beginning(plain, whole=True), said("desk: .+"), 2)
 
@@ -75,7 +76,7 @@ def in_a_later_part(place):
     order = place.order(2 * MOST, 3, False)
     data = place.pool.data(order) + MARKED
     right, least = place.pool.lines(order, True) + b"%d 1000007 5170857 5170858\n" % len(order), len(place.pool.lines(order[:MOST], True))
-    for name in ("loses the last line", "says another number", "ends with a status", "says something on standard error"):
+    for name in ("loses the last line", "says something on standard error"):
         ran = place.desk("fleet", "--plain", given=data, env={"RATTLE_HOME": str(place.room / "kits" / name)})
         yield f"desk, a program that {name} in a later part", faults(ran, beginning(right, least, True), said("desk: .+"), 2)
 

@@ -13,7 +13,7 @@ import threading
 import time
 import tty
 
-from hold import LONGEST, Ran
+from hold import LONGEST, Ran, faults
 
 MARK = "DESK_TEST_RUN"
 PIPE_SIZE = 1031  # F_SETPIPE_SZ, which Python has a name for from 3.10 on
@@ -51,7 +51,7 @@ class Stalled:
 
     def __init__(self, data):
         self.descriptor, self.writer = os.pipe()
-        fcntl.fcntl(self.writer, PIPE_SIZE, 1 << 20)
+        fcntl.fcntl(self.writer, PIPE_SIZE, 1 << 18)
         os.set_blocking(self.descriptor, False)
         if data:
             assert os.write(self.writer, data) == len(data), "the pipe doesn't hold that much"
@@ -168,9 +168,8 @@ class Collected:
         self.thread.start()
 
     def ended(self):
-        """What came; None where somebody still holds the other end."""
-        self.thread.join(5)
-        return None if self.thread.is_alive() else bytes(self.text)
+        self.thread.join()
+        return bytes(self.text)
 
 
 class Leaving:
@@ -193,7 +192,7 @@ class Leaving:
 
     def ended(self):
         if self.lines:
-            self.thread.join(5)
+            self.thread.join()
         return self.text
 
 
@@ -238,26 +237,28 @@ class Run:
         for name in filter(str.isdigit, os.listdir("/proc")):
             try:
                 state, _, _, session = pathlib.Path("/proc", name, "stat").read_text().rsplit(")", 1)[1].split()[:4]
-                marked = self.mark.encode() in pathlib.Path("/proc", name, "environ").read_bytes().split(b"\0")
+                if state not in "ZX" and (int(session) == self.child.pid or self.marked(name)):
+                    found.append(int(name))
             except OSError:
-                continue
-            if state not in "ZX" and (marked or int(session) == self.child.pid):
-                found.append(int(name))
+                pass
         return found
 
-    def end(self):
-        """Awaits the end. Whatever of it is still there afterwards is stopped, and that is a fault of its own."""
-        try:
-            status = self.child.wait(LONGEST)
-        except subprocess.TimeoutExpired:
-            status = None
-        out, err = (b"", b"") if status is None else (self.out.ended(), self.err.ended())
-        left = self.left(0 if status is None else 1)
-        self.child.wait()
+    def marked(self, process):
+        return self.mark.encode() in pathlib.Path("/proc", process, "environ").read_bytes().split(b"\0")
+
+    def end(self, longest=LONGEST, patience=1):
+        """Awaits the end. Whoever is still there so many seconds later is stopped, and that is a fault of its own."""
+        waiting = threading.Thread(target=self.child.wait)
+        waiting.start()
+        waiting.join(longest)
+        status = self.child.returncode
+        left = self.left(0 if status is None else patience)
+        waiting.join()
+        out, err = self.out.ended(), self.err.ended()
         self.given.ended()
-        if left and status is not None or out is None or err is None:
-            return Ran(out or b"", (err or b"") + b"(a process was left running)\n", 128 - status if status < 0 else status)
-        return Ran(out, err, 128 - status if status is not None and status < 0 else status)
+        if status is None:
+            return Ran(out, err, None)
+        return Ran(out, err + (b"(a process was left running)\n" if left else b""), 128 - status if status < 0 else status)
 
     def left(self, seconds):
         """Who is there after so many seconds, stopped one by one."""
@@ -275,3 +276,16 @@ class Run:
 
 def run(words, given=None, **more):
     return Run(words, given, **more).end()
+
+
+def self_check():
+    """A run that doesn't end, one that leaves somebody behind, and one that is ended by a signal are noticed."""
+    unseen = []
+    ran = Run(["sleep", "30"]).end(longest=0.1)
+    unseen += [] if ran.status is None and faults(ran, b"") else ["that a run doesn't end"]
+    for how in ("sleep 30 &", "setsid sleep 30 &", "env -i sleep 30 &"):
+        ran = Run(["sh", "-c", how]).end(patience=0.2)
+        unseen += [] if faults(ran, b"") else [f"that somebody is left behind by {how}"]
+    ran = run(["sh", "-c", "kill -9 $$"])
+    unseen += [] if ran.status == 137 else ["an end by a signal"]
+    return unseen

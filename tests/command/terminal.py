@@ -52,14 +52,19 @@ def summed(ships, bounds, counts, besides=0):
     return lambda came: summary(screen(came.decode("utf-8", "replace"))[besides:], ships, bounds, counts)
 
 
-def self_check():
+def self_check(place):
     """The summary with a figure that is another, and a screen with rests of a line, are noticed."""
     text = "1,234 ships, 1,192 with bounds, 42 refused\n31 refused 2\n11 refused 6\n"
     right = (1234, 1192, {2: 31, 6: 11})
     wrong = [text.replace(*change) for change in ((",234", ",235"), ("42", "41"), ("31", "32"), ("11 refused 6", ""), ("11", "12"))]
     wrong[0] = wrong[0].replace(",192", ",193")
-    assert summary([text], *right) is None and all(summary([other], *right) for other in wrong)
-    assert screen("abcdef\rxy\x1b[K\nz\r\x1b[K") == ["xy", "z"[:0]] and screen("abc\rx\n") == ["xbc", ""] and screen("a" * 81) == ["a" * 80, "a"]
+    unseen = ["that a summary is right"] * bool(summary([text], *right)) + [f"that {bad} is wrong" for bad in wrong if not summary([bad], *right)]
+    shown = [screen("abcdef\rxy\x1b[K\nz\r\x1b[K"), screen("abc\rx\n"), screen("a" * 81), screen("a" * 80 + "\n")]
+    unseen += [] if shown == [["xy", ""], ["xbc", ""], ["a" * 80, "a"], ["a" * 80, ""]] else ["what a terminal shows"]
+    told = progress("fleet", lambda came: None, 100)
+    unseen += ["that progress is told"] * bool(told(b"\r\x1b[Kdesk: 50 blocks of fleet\r\x1b[K"))
+    dull = [b"", b"100 blocks of fleet", b"0 blocks of fleet", b"50 blocks", b"50 blocks of fleet" + b"t" * 63]
+    return unseen + [f"that {bad} is wrong" for bad in dull if not told(bad)]
 
 
 def short(place):
@@ -102,20 +107,20 @@ def progress(name, told, count):
 
 
 def long_file(place):
-    data, plain, people = place.long()
-    refused = len([at for at in place.long_order() if place.pool.plain[at].startswith("refused")])
-    told = summed(len(place.long_order()), len(place.long_order()) - refused, {})
+    data, plain, people = place.long
+    refused = len([at for at in place.long_order if place.pool.plain[at].startswith("refused")])
+    told = summed(len(place.long_order), len(place.long_order) - refused, {})
     (place.room / "fleet").write_bytes(data)
     ran = place.desk("fleet", "fleet", cwd=place.room, err=Collected(True))
-    yield "desk, how far it is", faults(ran, people, progress("fleet", told, len(place.long_order())), 1)
+    yield "desk, how far it is", faults(ran, people, progress("fleet", told, len(place.long_order)), 1)
     ran = place.desk("fleet", "--plain", given=data, err=Collected(True))
-    yield "desk, how far it is, plain", faults(ran, plain, progress("", told, len(place.long_order())), 1)
+    yield "desk, how far it is, plain", faults(ran, plain, progress("", told, len(place.long_order)), 1)
     ran = place.desk("fleet", "fleet", cwd=place.room, err=Written(place.room / "told"))
     yield "desk, standard error is a file", faults(ran, people, b"", 1)
     name = "n\x1b[31m" * 20
     os.rename(place.room / "fleet", place.room / name)
     ran = place.desk("fleet", "--plain", name, cwd=place.room, err=Collected(True))
-    yield "desk, how far it is, a long name", faults(ran, plain, progress("", told, len(place.long_order())), 1)
+    yield "desk, how far it is, a long name", faults(ran, plain, progress("", told, len(place.long_order)), 1)
     yield "desk, no escape of a name on the terminal", ["it is there"] if b"\x1b[31m" in ran.err else []
 
 
@@ -147,7 +152,6 @@ def one_terminal(place):
 
 
 def cases(place):
-    self_check()
     assert not set(COUNTS.values()) & set(FAULTS)
     for part in (short, long_file, one_terminal):
         yield from part(place)

@@ -60,7 +60,7 @@ def no_permission(place):
     (folder / "closed folder").mkdir(mode=0o700)
     (folder / "closed folder").chmod(0o000)
     other = {"user": NOBODY, "group": NOBODY, "extra_groups": []} if os.geteuid() == 0 else {}
-    how = {"cwd": folder, "root": place.copy("copy"), **other}
+    how = {"cwd": folder, "root": place.copy("copy"), "env": {"RATTLE_HOME": place.kit_for_all()}, **other}
     for name in ("secret", "closed folder/within"):
         told = said(f"desk: {name}: Permission denied")
         yield f"desk, no permission, {name}", faults(place.desk("fleet", name, **how), b"", told, 2)

@@ -1,11 +1,9 @@
 """bin/desk where its lines can't be written, or nobody reads them any more."""
 import signal
 
-from alone import Reading
-from hold import faults, said
+from alone import Reading, Stuffed
+from hold import beginning, faults, said
 from started import Leaving, Written, at_most, closed, ignoring
-
-LONG = 200000
 
 
 def cannot(reason):
@@ -43,25 +41,31 @@ def little_room(place):
     data, plain, people = place.some(300)
     path = place.file(data)
     for words, right in ((["fleet"], people), (["fleet", "--plain"], plain)):
-        for size in (1, 1000, 4096, len(right) - 1):
+        for size in (1000, len(right) - 1):
             ran = place.desk(*words, path, out=Written(place.room / f"room {len(right)} {size}"), before=(at_most(size),))
-            yield f"desk, a disk with room for {size} bytes, {words}", faults(ran, right[:size], cannot("File too large"), 2)
+            yield f"desk, a disk with room for {size} bytes, {words}", faults(ran, beginning(right), cannot("File too large"), 2)
         ran = place.desk(*words, path, out=Written(place.room / f"room {len(right)}"), before=(at_most(len(right)),))
         yield f"desk, a disk with just enough room, {words}", faults(ran, right, status=1)
 
 
 def little_room_late(place):
     """In a later part of a long file, after more than ten million bytes of lines."""
-    data, _, people = place.some(LONG, seed=4)
+    data, _, people = place.long
     size = 10 ** 7 + 1
     ran = place.desk("fleet", given=data, out=Written(place.room / "long"), before=(at_most(size),))
     yield "desk, a disk that is full in a later part", faults(ran, people[:size], cannot("File too large"), 2)
 
 
+def full_pipe(place):
+    data, plain, _ = place.some(10000)
+    ran = place.desk("fleet", "--plain", given=data, out=Stuffed())
+    yield "desk, a pipe that is full", faults(ran, beginning(plain, 4096), cannot("Resource temporarily unavailable"), 2)
+
+
 def reader_goes(place):
     """Quietly, with status 141, whether or not the signal for it is ignored; what was read is right. That nobody is left running a
     second later is held with every run."""
-    data, plain, people = place.some(LONG, seed=5)
+    data, plain, people = place.long
     path = place.file(data)
     for words, right in ((["fleet"], people.splitlines(True)), (["fleet", "--plain"], plain.splitlines(True))):
         for lines in (0, 1, 100000):
@@ -83,5 +87,5 @@ def reader_goes_early(place):
 
 
 def cases(place):
-    for part in (full, no_output, little_room, little_room_late, reader_goes, reader_goes_early):
+    for part in (full, no_output, little_room, little_room_late, full_pipe, reader_goes, reader_goes_early):
         yield from part(place)

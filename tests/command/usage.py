@@ -47,6 +47,12 @@ def not_understood(place):
         yield f"desk, not understood: {shown or 'nothing'}", faults(place.desk(*words), b"", has(r"\S"), 2)
 
 
+def self_check(place):
+    """Words that aren't there, and a number that is only part of another, are noticed."""
+    fault = has(r"(?<![\d.])2\.4(?![\d.])", "desk")
+    return [f"that {bad} is wrong" for bad in (b"", b"desk", b"2.4", b"desk 12.4", b"desk 2.41", b"desk 2.4.1") if not fault(bad)]
+
+
 def cases(place):
     for part in (version, help_words, not_understood):
         yield from part(place)

@@ -15,7 +15,7 @@ use Rattle.streams.proofs.Reading.{answered-within}
 use Rattle.lines.specs.Lines.{lines-of}
 use Rattle.lines.proofs.Files.{lines-append}
 use Rattle.fleet.specs.declared.Batch.{Batch}
-use Rattle.fleet.specs.Batches.{batch-after, Begun, Follows}
+use Rattle.fleet.specs.Batches.{batch-after, batch-if, Begun, Follows}
 
 -- The lines of a whole batch and of the batches after it are together the lines of the file.
 pub batches-join : (b : Batch) (whole rest : List ℕ) → length whole ≡ 65536
@@ -35,7 +35,7 @@ unfolding batch-after
 after-is b e = rw e
 
 -- What comes after a batch may follow it, and so may a stop where its lines were not written.
-pub follows-step : (b n : Batch) (going written : Bool) → n ≡ batch-after b going → Follows b (record { first = n .first; more = written && n .more })
+pub follows-step : (b n : Batch) (going written : Bool) → n ≡ batch-after b going → Follows b (batch-if n written)
 unfolding batch-after
 follows-step b n going written e = rw e (record { numbered = refl; allowed = last written going _ })
   where

@@ -15,6 +15,10 @@ first-batch = record { first = 0; more = true }
 unfoldable pub batch-after : Batch → Bool → Batch
 batch-after b going = record { first = b .first + 128; more = going && ltb (b .first + 128) 65536 }
 
+-- Batch n where the lines before it were written; otherwise none.
+abbrev pub batch-if : Batch → Bool → Batch
+batch-if n written = record { first = n .first; more = written && n .more }
+
 -- One of the 512 batches: its 128 numbers are below 65,536.
 pub record Begun (b : Batch) : Type 0 where
   pub multiple : b .first % 128 ≡ 0

@@ -1,12 +1,13 @@
 // The desk's program: a line for each block of standard input.
 use libc::STDERR_FILENO;
 use streams::Got;
+use streams::Sent;
 ghost use mathlib.Core.Path.{_≡_};
 ghost use Prim.Native.Nat.{_≤_};
 ghost use lib.ListN.{length, take};
 ghost use Rattle.streams.specs.Streams.{Filled, answered-of};
 ghost use Rattle.lines.specs.Lines.{lines-of};
-ghost use Rattle.fleet.specs.Batches.{first-batch, batch-after, Begun, Follows};
+ghost use Rattle.fleet.specs.Batches.{first-batch, batch-after, batch-if, Begun, Follows};
 
 // The batch of up to 128 blocks that begins with block `first`; `more` is whether there is one.
 struct Batch {
@@ -50,6 +51,16 @@ fn put_batch(text: &mut [u8], batch: Batch, blocks: &[u8], got: Got) -> Step
     }
 }
 
+// Nothing comes after lines that could not be written.
+fn go_on(next: Batch, sent: Sent) -> Batch
+    ensures { λ r. ⌜ r ≡ batch-if next (sent .all) ⌝ }
+{
+    Batch {
+        first: next.first,
+        more: sent.all & next.more,
+    }
+}
+
 // Reads a batch, writes its lines in one write and says what failed; answers what comes after it, which is nothing where a side failed.
 fn next(batch: Batch) -> Batch
     requires { ⌜ Begun batch ⌝ }
@@ -64,10 +75,7 @@ fn next(batch: Batch) -> Batch
     let mut complaint = [0u8; 36];
     let said = streams::put_complaint(&mut complaint, b"fleet", got, sent);
     io::write_all(STDERR_FILENO, &complaint[..said]);
-    Batch {
-        first: step.next.first,
-        more: sent.all & step.next.more,
-    }
+    go_on(step.next, sent)
 }
 
 // 512 batches at most, so that no byte beyond 65,536 blocks is asked for.

@@ -5,6 +5,7 @@ use mathlib.Core.Path.{refl, sym, subst}
 use native.Mathlib.Omega.{arith}
 use lib.Seq.{length-take-le}
 use Rattle.streams.specs.Streams.{Filled}
+use Rattle.fleet.specs.Batches.{Follows}
 use Rattle.fleet.proofs.Batches.{follows-step}
 use borrow.Author.Needs.{needs}
 use Rattle.fleet.proofs.next.Statement.{statement}
@@ -57,11 +58,14 @@ slice-aggregate-write-all c =
 write-all-requires : tie.Need-write-all-requires
 write-all-requires c κs = search needs
 
+go-on-requires : tie.Need-go-on-requires
+go-on-requires c κs = search needs
+
 returns : tie.Need-returns
 returns c =
-    let sent = c .before .before .before .before .before .before .before .before in
+    let sent = c .before .before .before .before .before .before .before in
     let put = sent .before .before .before in
-    follows-step _ _ _ (sent .send .result .all) (put .put-batch .ensures .1 .1)
+    subst (Follows _) (sym (c .go-on .ensures)) (follows-step _ _ _ (sent .send .result .all) (put .put-batch .ensures .1 .1))
 
 pub next-spec : {M : Type 1} → statement M
 next-spec =
@@ -81,4 +85,5 @@ next-spec =
     array-share-prefix-complaint
     slice-aggregate-write-all
     write-all-requires
+    go-on-requires
     returns)
