@@ -3,8 +3,9 @@ import os
 import signal
 
 from hold import beginning, faults
-from setting import Setting
-from started import Collected, HungUp, Leaving, Opened, Stalled, Written, at_most, closed, ignoring, run
+from inputs import HungUp, Opened, Stalled
+from outputs import Leaving, Stuffed, Unwritable, Written
+from started import at_most, closed, ignoring, run
 
 UNREAD = b"fleet: cannot read standard input\n"
 UNWRITTEN = b"fleet: cannot write standard output\n"
@@ -16,7 +17,11 @@ def no_input(place):
     for name, given, before in (("a folder", place.room, ()), ("a closed one", None, (closed(0),)),
                                 ("one for writing alone", Opened(place.file(b""), os.O_WRONLY), ())):
         yield f"fleet, input is {name}", faults(run(place.fleet, given, before=before), b"", UNREAD)
-    yield "bin/with-kit fleet, input is a folder", faults(run([place.root / "bin" / "with-kit", "fleet"], place.room), b"", UNREAD)
+    with_kit, env = [place.root / "bin" / "with-kit", "fleet"], {"RATTLE_HOME": place.kit}
+    yield "bin/with-kit fleet, input is a folder", faults(run(with_kit, place.room), b"", UNREAD)
+    yield "bin/with-kit fleet, input is closed", faults(run(with_kit, before=(closed(0),), env=env), b"", UNREAD)
+    ran = run(with_kit, place.some(3)[0], out=Written("/dev/full"), env=env)
+    yield "bin/with-kit fleet, a full disk", faults(ran, b"", UNWRITTEN)
 
 
 def reading_fails(place):
@@ -35,7 +40,7 @@ def writing_fails(place):
     full, no_output = {"out": Written("/dev/full")}, {"before": (closed(1),)}
     yield "fleet, a full disk", faults(run(place.fleet, data, **full), b"", UNWRITTEN)
     yield "fleet, output closed", faults(run(place.fleet, data, **no_output), b"", UNWRITTEN)
-    yield "fleet, output for reading alone", faults(run(place.fleet, data, out=Reading()), b"", UNWRITTEN)
+    yield "fleet, output for reading alone", faults(run(place.fleet, data, out=Unwritable()), b"", UNWRITTEN)
     for size in (1, 1000, 4096, len(plain) - 1):
         ran = run(place.fleet, data, out=Written(place.room / f"limit {size}"), before=(at_most(size),))
         yield f"fleet, a disk with room for {size} bytes", faults(ran, plain[:size], UNWRITTEN)
@@ -47,31 +52,6 @@ def writing_fails(place):
     yield "fleet, reading fails and nothing is to be written", faults(ran, b"", UNREAD)
     for name, how in (("a full disk", {"out": Written("/dev/full")}), ("output closed", no_output)):
         yield f"fleet, no input and {name}", faults(run(place.fleet, b"", **how), b"")
-
-
-class Reading(Opened):
-    """An output that is open for reading alone."""
-
-    def __init__(self):
-        super().__init__(os.devnull)
-
-    def ended(self):
-        return b""
-
-
-class Stuffed(Collected):
-    """A pipe that doesn't wait and is read only after the end: when it is full, writing fails."""
-
-    def __init__(self):
-        super().__init__()
-        os.set_blocking(self.descriptor, False)
-
-    def started(self):
-        os.close(self.descriptor)
-
-    def ended(self):
-        self.thread.start()
-        return super().ended()
 
 
 def full_pipe(place):
@@ -96,6 +76,6 @@ def most_blocks(place):
         yield f"fleet, {name}, then EIO", faults(run(place.fleet, HungUp(data + more)), plain)
 
 
-def cases(place: Setting):
+def cases(place):
     for part in (no_input, reading_fails, writing_fails, full_pipe, reader_goes, most_blocks):
         yield from part(place)

@@ -8,7 +8,7 @@ from started import run
 
 # Names, and how they are shown.
 NAMES = {
-    b"two words": "two words", b"-dash": "-dash", b"--plain": "--plain", b"--help": "--help", b"line\nbreak": "line\\nbreak",
+    b"two words": "two words", b"-dash": "-dash", b"--plain": "--plain", b"line\nbreak": "line\\nbreak",
     b"break\n": "break\\n", b"not \xff UTF-8 \xc3": "not \\xff UTF-8 \\xc3", b"red \x1b[31m": "red \\x1b[31m", b"del \x7f": "del \\x7f",
     b"back\\slash": "back\\\\slash", b"no\\nbreak": "no\\\\nbreak", "F\u00e4hre".encode(): "F\u00e4hre", b"==> a <==": "==> a <==",
     b"it's \"$(x)`y` *": "it's \"$(x)`y` *", b" ": " ",
@@ -74,7 +74,9 @@ def names(place):
         (folder / path).write_bytes(data)
     right = b"".join(heading(shown) + people for shown in NAMES.values())
     yield "desk, names of every kind", faults(place.desk("fleet", "--", *paths, cwd=folder), right)
-    for name in (b"-dash", b"--plain", b"line\nbreak", b"not \xff UTF-8 \xc3"):
+    for name in (b"--help", b"--version", b"--"):
+        (folder / os.fsdecode(name)).write_bytes(data)
+    for name in (b"-dash", b"--plain", b"--help", b"--version", b"--", b"line\nbreak", b"not \xff UTF-8 \xc3"):
         yield f"desk, {name!r} alone", faults(place.desk("fleet", "--", os.fsdecode(name), cwd=folder), people)
     gone = [os.fsdecode(name) + "?" for name in NAMES]
     told = "".join(f"desk: {shown}?: No such file or directory\n" for shown in NAMES.values()).encode()

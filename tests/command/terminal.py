@@ -1,10 +1,12 @@
 """bin/desk where standard error is a terminal: how far it is, and the summary; neither where it is a file."""
+import collections
 import os
 import re
 
 from blocks import FAULTS, block, fault
 from hold import faults
-from started import Collected, Written
+from outputs import Collected, Same, Written
+from setting import LONG
 
 # How many of each refusal: no number here is that of another, of a refusal or of a block.
 COUNTS = {2: 31, 4: 43, 6: 52, 10: 67, 18: 71, 19: 89}
@@ -108,33 +110,21 @@ def progress(name, told, count):
 
 def long_file(place):
     data, plain, people = place.long
-    refused = len([at for at in place.long_order if place.pool.plain[at].startswith("refused")])
-    told = summed(len(place.long_order), len(place.long_order) - refused, {})
+    answers = collections.Counter(place.pool.plain[at] for at in place.long_order)
+    counts = {int(words[8:]): count for words, count in answers.items() if words.startswith("refused")}
+    told = summed(LONG, LONG - sum(counts.values()), counts)
     (place.room / "fleet").write_bytes(data)
     ran = place.desk("fleet", "fleet", cwd=place.room, err=Collected(True))
-    yield "desk, how far it is", faults(ran, people, progress("fleet", told, len(place.long_order)), 1)
+    yield "desk, how far it is", faults(ran, people, progress("fleet", told, LONG), 1)
     ran = place.desk("fleet", "--plain", given=data, err=Collected(True))
-    yield "desk, how far it is, plain", faults(ran, plain, progress("", told, len(place.long_order)), 1)
+    yield "desk, how far it is, plain", faults(ran, plain, progress("", told, LONG), 1)
     ran = place.desk("fleet", "fleet", cwd=place.room, err=Written(place.room / "told"))
     yield "desk, standard error is a file", faults(ran, people, b"", 1)
     name = "n\x1b[31m" * 20
     os.rename(place.room / "fleet", place.room / name)
     ran = place.desk("fleet", "--plain", name, cwd=place.room, err=Collected(True))
-    yield "desk, how far it is, a long name", faults(ran, plain, progress("", told, len(place.long_order)), 1)
+    yield "desk, how far it is, a long name", faults(ran, plain, progress("", told, LONG), 1)
     yield "desk, no escape of a name on the terminal", ["it is there"] if b"\x1b[31m" in ran.err else []
-
-
-class Same:
-    """Standard error into the terminal that standard output goes to."""
-
-    def __init__(self, other):
-        self.descriptor = other.descriptor
-
-    def started(self):
-        pass
-
-    def ended(self):
-        return b""
 
 
 def one_terminal(place):

@@ -3,8 +3,9 @@ import os
 
 from blocks import MOST
 from hold import against, either, faults, said
+from inputs import HungUp, Stalled
 from setting import heading
-from started import HungUp, Stalled, closed
+from started import closed
 
 NOBODY = 65534
 
@@ -119,5 +120,7 @@ def nobody_to_tell(place):
 
 
 def cases(place):
-    for part in (not_files, without_refusals, no_standard_input, no_permission, reading_fails, reading_fails_beside, reading_fails_late, nobody_to_tell):
+    for part in (not_files, without_refusals, no_standard_input, no_permission):
+        yield from part(place)
+    for part in (reading_fails, reading_fails_beside, reading_fails_late, nobody_to_tell):
         yield from part(place)

@@ -1,9 +1,9 @@
 """bin/desk where its lines can't be written, or nobody reads them any more."""
 import signal
 
-from alone import Reading, Stuffed
 from hold import beginning, faults, said
-from started import Leaving, Written, at_most, closed, ignoring
+from outputs import Leaving, Stuffed, Unwritable, Written
+from started import at_most, closed, ignoring
 
 
 def cannot(reason):
@@ -14,10 +14,10 @@ def full(place):
     """Nothing more is done after the first write that fails: the name that isn't there is no longer looked for."""
     data, _, _ = place.some(300)
     path = place.file(data)
-    for name, words in (("a full disk", ["fleet", path]), ("a full disk, plain", ["fleet", "--plain", path]), ("a full disk, two files", ["fleet", path, path]),
-                        ("help on a full disk", ["--help"]), ("the version on a full disk", ["--version"])):
+    for name, words in (("", ["fleet", path]), (", plain", ["fleet", "--plain", path]), (", and a name that isn't there", ["fleet", path, "nowhere"]),
+                        (", help", ["--help"]), (", version", ["--version"])):
         ran = place.desk(*words, out=Written("/dev/full"))
-        yield f"desk, {name}", faults(ran, b"", cannot("No space left on device"), 2)
+        yield f"desk, a full disk{name}", faults(ran, b"", cannot("No space left on device"), 2)
     yield "desk, a full disk, by pipe", faults(place.desk("fleet", given=data, out=Written("/dev/full")), b"", cannot("No space left on device"), 2)
     ran = place.desk("fleet", given=place.some(70000, refusals=False)[0], out=Written("/dev/full"))
     yield "desk, a full disk, 70,000 blocks", faults(ran, b"", cannot("No space left on device"), 2)
@@ -32,28 +32,28 @@ def no_output(place):
     path = place.file(data)
     ran = place.desk("fleet", path, path, before=(closed(0), closed(1)))
     yield "desk, standard input and output are closed", faults(ran, b"", cannot("Bad file descriptor"), 2)
-    ran = place.desk("fleet", given=data, out=Reading())
+    ran = place.desk("fleet", given=data, out=Unwritable())
     yield "desk, standard output is for reading alone", faults(ran, b"", cannot("Bad file descriptor"), 2)
 
 
 def little_room(place):
-    """What stands in the file is a beginning of the right lines."""
+    """What stands in the file is a beginning of the right lines. With so little the command may have no room for its own work either."""
     data, plain, people = place.some(300)
     path = place.file(data)
     for words, right in ((["fleet"], people), (["fleet", "--plain"], plain)):
         for size in (1000, len(right) - 1):
             ran = place.desk(*words, path, out=Written(place.room / f"room {len(right)} {size}"), before=(at_most(size),))
-            yield f"desk, a disk with room for {size} bytes, {words}", faults(ran, beginning(right), cannot("File too large"), 2)
-        ran = place.desk(*words, path, out=Written(place.room / f"room {len(right)}"), before=(at_most(len(right)),))
-        yield f"desk, a disk with just enough room, {words}", faults(ran, right, status=1)
+            yield f"desk, a disk with room for {size} bytes, {words}", faults(ran, beginning(right), said("desk: .+: File too large"), 2)
 
 
-def little_room_late(place):
-    """In a later part of a long file, after more than ten million bytes of lines."""
+def much_room(place):
+    """In a later part of a long file, at the very last byte, and just enough."""
     data, _, people = place.long
-    size = 10 ** 7 + 1
-    ran = place.desk("fleet", given=data, out=Written(place.room / "long"), before=(at_most(size),))
-    yield "desk, a disk that is full in a later part", faults(ran, people[:size], cannot("File too large"), 2)
+    path = place.file(data)
+    for size in (10 ** 7 + 1, len(people) - 1, len(people)):
+        ran = place.desk("fleet", path, out=Written(place.room / f"room {size}"), before=(at_most(size),))
+        told, status = (b"", 1) if size == len(people) else (cannot("File too large"), 2)
+        yield f"desk, a disk with room for {size} bytes of {len(people)}", faults(ran, people[:size], told, status)
 
 
 def full_pipe(place):
@@ -87,5 +87,5 @@ def reader_goes_early(place):
 
 
 def cases(place):
-    for part in (full, no_output, little_room, little_room_late, full_pipe, reader_goes, reader_goes_early):
+    for part in (full, no_output, little_room, much_room, full_pipe, reader_goes, reader_goes_early):
         yield from part(place)

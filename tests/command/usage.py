@@ -41,8 +41,8 @@ def help_words(place):
 def not_understood(place):
     """Nothing is read and no line is printed, though there would be a file."""
     path = place.file(place.some(3)[0])
-    for words in ([], ["fleets"], ["Fleet", path], [path], [""], ["--plain"], ["--plain", "fleet", path], ["--versions"], ["-h2"], ["fleet", "--nothing", path],
-                  ["fleet", "--plain", "--nothing", path], ["fleet", "-x", path], ["fleet", "--plain=no", path]):
+    for words in ([], ["fleets"], ["Fleet", path], [path], [""], ["--plain"], ["--plain", "fleet", path], ["--versions"], ["-h2"],
+                  ["fleet", "--nothing", path], ["fleet", "--plain", "--nothing", path], ["fleet", "-x", path], ["fleet", "--plain=no", path]):
         shown = " ".join("FILE" if word == path else repr(word) for word in words)
         yield f"desk, not understood: {shown or 'nothing'}", faults(place.desk(*words), b"", has(r"\S"), 2)
 

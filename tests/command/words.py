@@ -70,7 +70,8 @@ EXTREMES = [
     {"type": 4, "volume": 0, "deadweight": 100, "speed_low": 500, "speed_high": 500, "engines": 4, "aux_method": 2, "table_power": 50000,
      "aux_low": 4000, "aux_high": 4000, **{f"{name}{k}": figure for k in range(4) for name, figure in (
          ("mcr_low", 120000), ("mcr_high", 120000), ("sfc_low", 4000), ("sfc_high", 4000), ("fuel", 1), ("source", 1))}},
-    *({"type": 2, "volume": 0, "deadweight": 36196, "speed_low": low, "speed_high": high} for low, high in ((1000, 1000), (900, 1000), (1000, 1100))),
+    *({"type": 2, "volume": 0, "deadweight": 36196, "speed_low": low, "speed_high": high}
+      for low, high in ((1000, 1000), (900, 1000), (1000, 1100))),
 ]
 # What else a pair can be like: lower bound, upper bound.
 LOOKS = [
@@ -87,7 +88,8 @@ def sister(look):
         for deadweight in range(100, 600001):
             lower, rest = divmod(45245 * power * 10 ** 6, deadweight * speed)
             if look(lower, lower + (rest > 0)):
-                return {"type": 2, "volume": 0, "deadweight": deadweight, "speed_low": speed, "speed_high": speed, "mcr_low0": power, "mcr_high0": power}
+                speeds, powers = {"speed_low": speed, "speed_high": speed}, {"mcr_low0": power, "mcr_high0": power}
+                return {"type": 2, "volume": 0, "deadweight": deadweight, **speeds, **powers}
     raise AssertionError("no ship looks so")
 
 
