@@ -1,6 +1,6 @@
 #!/usr/bin/env python3
-"""The refusals of c/yagmurzol.h and bin/desk are those of the rules: every number has its name in the header, and the words of both are
-those of README's table, with its fields in bin/desk.
+"""The refusals of c/yagmurzol.h and bin/desk.py are those of the rules: every number has its name in the header, and the words of both are
+those of README's table, with its fields in bin/desk.py.
    tests/header.py --check"""
 import ast, os, re, sys
 
@@ -35,7 +35,7 @@ def differences(header, rules, readme, command):
 
 
 def main():
-    texts = [read("c/yagmurzol.h"), read("crates/ship/specs/Refusals.antt"), read("README.md"), read("bin/desk")]
+    texts = [read("c/yagmurzol.h"), read("crates/ship/specs/Refusals.antt"), read("README.md"), read("bin/desk.py")]
     falsified = [
         (0, "YAGMURZOL_TRIAL = 15", "YAGMURZOL_SPEED = 15", ["the name of 15"]),
         (0, "deadweight not 100 to", "deadweight not 10 to", ["the words of 6"]),
@@ -50,7 +50,7 @@ def main():
             sys.exit(f"header: '{new}' for '{old}' went unseen")
     wrong = differences(*texts)
     if wrong:
-        sys.exit(f"header: the rules, README's table, c/yagmurzol.h and bin/desk differ in {', '.join(wrong)}")
+        sys.exit(f"header: the rules, README's table, c/yagmurzol.h and bin/desk.py differ in {', '.join(wrong)}")
 
 
 main()

@@ -20,7 +20,7 @@ def broken_off(place):
     for words, right in (([name], people), (["--plain", name], plain)):
         writer = threading.Thread(target=lambda: name.write_bytes(data), daemon=True)
         writer.start()
-        yield f"desk, a named pipe whose writer stops within a block, {len(words)}", faults(place.desk("fleet", *words), right, status=1)
+        yield f"desk, a named pipe whose writer stops within a block, {len(words)} words", faults(place.desk("fleet", *words), right, status=1)
         writer.join(1)
 
 
@@ -87,9 +87,9 @@ def grows(place):
         ran = place.desk("fleet", *words, path)
         stop.set()
         writer.join()
-        found = faults(ran, grown(place, order, begun, bool(words)), status=ran.status if ran.status in (0, 1) else 0)
-        refused = ran.out.splitlines()[-1:] and b"refused 1" in ran.out.splitlines()[-1]
-        yield f"desk, a file that grows, {words}", found + ([] if ran.status == refused else [f"status {ran.status}; right is {int(refused)}"])
+        # All blocks have bounds: only half a block is refused.
+        found = faults(ran, grown(place, order, begun, bool(words)), status=int(b"refused" in ran.out))
+        yield f"desk, a file that grows {' '.join(words)}", found
 
 
 def append(path, data, stop):

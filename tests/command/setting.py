@@ -38,9 +38,9 @@ class Setting:
         self.room.chmod(0o755)
 
     def file(self, data, name=None):
-        """A file in the room; its path, from which its name may be taken."""
+        """A file in the room, by its path."""
         self.files += 1
-        path = pathlib.Path(os.fsdecode(os.path.join(os.fsencode(self.room), os.fsencode(name or f"{self.files}.blocks"))))
+        path = self.room / (name or f"{self.files}.blocks")
         path.write_bytes(data)
         return path
 
@@ -78,10 +78,10 @@ class Setting:
         open_to_all(root)
         return root
 
-
     def kit_for_all(self):
         """The kit's loader, its libraries and its emulator, where every user can read them."""
-        tools, made = pathlib.Path(self.kit, "on", os.uname().machine, "toolchain"), self.room / "kit" / "on" / os.uname().machine / "toolchain"
+        inside = pathlib.Path("on", os.uname().machine, "toolchain")
+        tools, made = self.kit / inside, self.room / "kit" / inside
         shutil.copytree(tools / "lib", made / "lib")
         (made / "bin").mkdir()
         if (tools / "bin" / "qemu-x86_64").exists():

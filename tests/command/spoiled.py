@@ -25,7 +25,8 @@ sys.exit(status)
 '''
 # What is done to the lines of five blocks, or more.
 SPOILS = {
-    "loses the first line": "del lines[0]", "loses a line": "del lines[2]", "loses the last line": "del lines[-1]", "loses all lines": "lines = []",
+    "loses the first line": "del lines[0]", "loses a line": "del lines[2]", "loses the last line": "del lines[-1]",
+    "loses all lines": "lines = []",
     "doubles a line": "lines.insert(2, lines[2])", "doubles the last line": "lines.append(lines[-1])",
     "says a line too many": "lines.append(b'%d refused 1\\n' % len(lines))",
     "exchanges two lines": "lines[1:3] = lines[2:0:-1]",

@@ -49,9 +49,9 @@ def summary(lines, ships, bounds, counts):
     return f"the summary has not {', not '.join(missing)}: {text[-400:]!r}" if missing else None
 
 
-def summed(ships, bounds, counts, besides=0):
-    """Standard error of a terminal that shows nothing but the summary in the end, behind so many lines of messages."""
-    return lambda came: summary(screen(came.decode("utf-8", "replace"))[besides:], ships, bounds, counts)
+def summed(ships, bounds, counts):
+    """Standard error of a terminal that shows the summary in the end."""
+    return lambda came: summary(screen(came.decode("utf-8", "replace")), ships, bounds, counts)
 
 
 def self_check(place):
@@ -63,9 +63,9 @@ def self_check(place):
     unseen = ["that a summary is right"] * bool(summary([text], *right)) + [f"that {bad} is wrong" for bad in wrong if not summary([bad], *right)]
     shown = [screen("abcdef\rxy\x1b[K\nz\r\x1b[K"), screen("abc\rx\n"), screen("a" * 81), screen("a" * 80 + "\n")]
     unseen += [] if shown == [["xy", ""], ["xbc", ""], ["a" * 80, "a"], ["a" * 80, ""]] else ["what a terminal shows"]
-    told = progress("fleet", lambda came: None, 100)
-    unseen += ["that progress is told"] * bool(told(b"\r\x1b[Kdesk: 50 blocks of fleet\r\x1b[K"))
-    dull = [b"", b"100 blocks of fleet", b"0 blocks of fleet", b"50 blocks", b"50 blocks of fleet" + b"t" * 63]
+    told = progress(lambda came: None, 100)
+    unseen += ["that progress is told"] * bool(told(b"\r\x1b[Kdesk: 50 blocks of fleet\r\x1b[Kdesk: 100 ships\n"))
+    dull = [b"", b"desk: 50 blocks\n", b"100 blocks\r\x1b[K", b"0 blocks\r\x1b[Kdesk: 100 ships, 50 refused\n", b"50 " + b"t" * 78 + b"\r\x1b[K"]
     return unseen + [f"that {bad} is wrong" for bad in dull if not told(bad)]
 
 
@@ -81,7 +81,7 @@ def short(place):
     ran = place.desk("fleet", "--plain", path, path, err=Collected(True))
     yield "desk, the summary of two files", faults(ran, 2 * known.lines(range(len(pieces)), True), summed(2 * len(pieces), 2 * BOUNDS, twice), 1)
     ran = place.desk("fleet", "--plain", place.room / "none", path, err=Collected(True))
-    yield "desk, the summary behind a message", faults(ran, known.lines(range(len(pieces)), True), behind_message(place, told), 1 + 1)
+    yield "desk, the summary behind a message", faults(ran, known.lines(range(len(pieces)), True), behind_message(place, told), 2)
     ran = place.desk("fleet", given=block(), err=Collected(True))
     yield "desk, the summary without refusals", faults(ran, known.lines([len(pieces) - 1]), summed(1, 1, {}))
 
@@ -95,12 +95,12 @@ def behind_message(place, told):
     return fault
 
 
-def progress(name, told, count):
-    """It tells how far it is before the end, no line is longer than the terminal is wide, and in the end the summary stands alone."""
+def progress(told, count):
+    """Before the summary it tells how far it is, in states of one line that are written over, none of them longer than the terminal is
+    wide."""
     def fault(came):
-        text = came.decode("utf-8", "replace")
-        states = [one_number(state) for state in re.split(r"[\r\n]|\x1b\[\d*K", text) if state.strip()]
-        far = [int(figure) for state in states for figure in re.findall(r"\d+", state) if name in state]
+        states = [state for line in came.decode("utf-8", "replace").split("\n") for state in re.split(r"\r|\x1b\[\d*K", line)[:-1]]
+        far = [int(figure) for state in states for figure in re.findall(r"\d+", one_number(state))]
         if not any(0 < figure < count for figure in far):
             return f"it doesn't tell how far it is: {states[:3]}"
         wide = [state for state in states if len(state) > WIDTH]
@@ -115,15 +115,15 @@ def long_file(place):
     told = summed(LONG, LONG - sum(counts.values()), counts)
     (place.room / "fleet").write_bytes(data)
     ran = place.desk("fleet", "fleet", cwd=place.room, err=Collected(True))
-    yield "desk, how far it is", faults(ran, people, progress("fleet", told, LONG), 1)
+    yield "desk, how far it is", faults(ran, people, progress(told, LONG), 1)
     ran = place.desk("fleet", "--plain", given=data, err=Collected(True))
-    yield "desk, how far it is, plain", faults(ran, plain, progress("", told, LONG), 1)
+    yield "desk, how far it is, plain", faults(ran, plain, progress(told, LONG), 1)
     ran = place.desk("fleet", "fleet", cwd=place.room, err=Written(place.room / "told"))
     yield "desk, standard error is a file", faults(ran, people, b"", 1)
     name = "n\x1b[31m" * 20
     os.rename(place.room / "fleet", place.room / name)
     ran = place.desk("fleet", "--plain", name, cwd=place.room, err=Collected(True))
-    yield "desk, how far it is, a long name", faults(ran, plain, progress("", told, LONG), 1)
+    yield "desk, how far it is, a long name", faults(ran, plain, progress(told, LONG), 1)
     yield "desk, no escape of a name on the terminal", ["it is there"] if b"\x1b[31m" in ran.err else []
 
 

@@ -4,6 +4,7 @@ import os
 from blocks import MOST
 from hold import against, either, faults, said
 from inputs import HungUp, Stalled
+from outputs import Written
 from setting import heading
 from started import closed
 
@@ -43,7 +44,7 @@ def no_standard_input(place):
     yield "desk, standard input is a folder", faults(ran, b"", said("desk: standard input: Is a directory"), 2)
     for words in ([], ["-"]):
         ran = place.desk("fleet", *words, before=(closed(0),))
-        yield f"desk, standard input is closed, {words}", faults(ran, b"", said("desk: standard input: Bad file descriptor"), 2)
+        yield f"desk, standard input is closed, FILE {' '.join(words)}", faults(ran, b"", said("desk: standard input: Bad file descriptor"), 2)
     path = place.file(data)
     yield "desk, standard input is closed and not wanted", faults(place.desk("fleet", path, before=(closed(0),)), people, status=1)
     ran = place.desk("fleet", path, "-", before=(closed(0),))
@@ -113,7 +114,8 @@ def nobody_to_tell(place):
     """Where standard error is closed or full too, the status still tells it, and no message goes into a file."""
     data, _, people = place.some(3)
     path = place.file(data)
-    for name, how in (("closed", {"before": (closed(2),)}), ("closed with its input", {"before": (closed(2), closed(0))})):
+    for name, how in (("closed", {"before": (closed(2),)}), ("closed with its input", {"before": (closed(2), closed(0))}),
+                      ("full", {"err": Written("/dev/full")})):
         ran = place.desk("fleet", path, "nowhere", path, **how)
         yield f"desk, standard error {name}", faults(ran, heading(path) + people + heading(path) + people, status=2)
     yield "desk, its files are as they were", against("the file", path.read_bytes(), data)

@@ -14,8 +14,8 @@ def full(place):
     """Nothing more is done after the first write that fails: the name that isn't there is no longer looked for."""
     data, _, _ = place.some(300)
     path = place.file(data)
-    for name, words in (("", ["fleet", path]), (", plain", ["fleet", "--plain", path]), (", and a name that isn't there", ["fleet", path, "nowhere"]),
-                        (", help", ["--help"]), (", version", ["--version"])):
+    for name, words in (("", ["fleet", path]), (", plain", ["fleet", "--plain", path]), (", help", ["--help"]), (", version", ["--version"]),
+                        (", and a name that isn't there", ["fleet", path, "nowhere"])):
         ran = place.desk(*words, out=Written("/dev/full"))
         yield f"desk, a full disk{name}", faults(ran, b"", cannot("No space left on device"), 2)
     yield "desk, a full disk, by pipe", faults(place.desk("fleet", given=data, out=Written("/dev/full")), b"", cannot("No space left on device"), 2)
@@ -28,7 +28,7 @@ def no_output(place):
     data, _, _ = place.some(3)
     for words in (["fleet"], ["fleet", "--plain"], ["--help"], ["--version"]):
         ran = place.desk(*words, given=data, before=(closed(1),))
-        yield f"desk, standard output is closed, {words}", faults(ran, b"", cannot("Bad file descriptor"), 2)
+        yield f"desk, standard output is closed, {' '.join(words)}", faults(ran, b"", cannot("Bad file descriptor"), 2)
     path = place.file(data)
     ran = place.desk("fleet", path, path, before=(closed(0), closed(1)))
     yield "desk, standard input and output are closed", faults(ran, b"", cannot("Bad file descriptor"), 2)
@@ -43,7 +43,7 @@ def little_room(place):
     for words, right in ((["fleet"], people), (["fleet", "--plain"], plain)):
         for size in (1000, len(right) - 1):
             ran = place.desk(*words, path, out=Written(place.room / f"room {len(right)} {size}"), before=(at_most(size),))
-            yield f"desk, a disk with room for {size} bytes, {words}", faults(ran, beginning(right), said("desk: .+: File too large"), 2)
+            yield f"desk, a disk with room for {size} bytes, {' '.join(words)}", faults(ran, beginning(right), said("desk: .+: File too large"), 2)
 
 
 def much_room(place):
@@ -72,7 +72,7 @@ def reader_goes(place):
             for name, before in (("", ()), (", signal ignored", (ignoring(signal.SIGPIPE),))):
                 given = {"given": data} if lines == 1 else {}
                 ran = place.desk(*words, *([] if given else [path]), **given, out=Leaving(lines), before=before)
-                yield f"desk, the reader goes after {lines} lines{name}, {words}", faults(ran, b"".join(right[:lines]), b"", 141)
+                yield f"desk, the reader goes after {lines} lines{name}, {' '.join(words)}", faults(ran, b"".join(right[:lines]), b"", 141)
 
 
 def reader_goes_early(place):
