@@ -4,6 +4,7 @@ standard input as descriptor 3; bin/desk.1 is its manual.
 This command decides nothing about a ship. It reads, cuts long files into parts, counts the program's lines against the bytes that it
 sent in, and says aloud what could not be read, written or run."""
 import collections
+import contextlib
 import gc
 import hashlib
 import mmap
@@ -63,6 +64,10 @@ class Trouble(Exception):
     """Something could not be read, written or run."""
 
 
+class Unread(Exception):
+    """Nobody reads standard output any more. Who has closed a pipe wants no more lines, and no word about it."""
+
+
 def say(words):
     """A line on standard error; where that can't be written either, the status alone tells."""
     try:
@@ -72,13 +77,13 @@ def say(words):
 
 
 def put(text):
-    """All of it to standard output. Who has closed a pipe wants no more, and no word about it."""
+    """All of it to standard output."""
     rest = memoryview(text)
     while rest:
         try:
             rest = rest[os.write(1, rest):]
         except BrokenPipeError:
-            os._exit(141)
+            raise Unread
         except OSError as error:
             raise Trouble(f"standard output: {error.strerror}")
 
@@ -282,6 +287,12 @@ def serve(desk, order, result):
         os._exit(0)
 
 
+def processes():
+    """One for each processor, and one more, so that none is idle while the command reads and writes for one of them."""
+    processors = len(os.sched_getaffinity(0))
+    return 1 if processors == 1 else min(processors + 1, MOST_PROCESSES)
+
+
 def answers_of(file, desk_at, most):
     """The answers to a file's parts, in their order, each with its part and the desk that has its text. Up to so many parts are at work at
     once; a file of one part needs no other process."""
@@ -313,7 +324,7 @@ class Fleet:
 
     def __init__(self, plain, headed):
         self.words, self.plain, self.headed = program_words(), plain, headed
-        self.desks, self.most = [], min(len(os.sched_getaffinity(0)), MOST_PROCESSES)
+        self.desks, self.most = [], processes()
         self.looked_at, self.told = os.isatty(2), False
         self.blocks, self.refused, self.failed = 0, collections.Counter(), False
 
@@ -337,20 +348,22 @@ class Fleet:
 
     def answer_file(self, file, title):
         done = 0
-        for desk, part, found in answers_of(file, self.desk_at, self.most):
-            if found.wrong:
-                self.fail(f"{title}: {found.wrong}" + (f"; the blocks from {done} on are not answered" if done else ""))
-                return
-            heading = f"==> {title} <==\n" if self.headed and part.first == 0 and (found.blocks or not part.why) else ""
-            self.tell("")
-            put(heading.encode("utf-8") + os.pread(desk.text, found.length, 0))
-            done += found.blocks
-            self.blocks += found.blocks
-            self.refused.update(found.refused)
-            if not part.last:
-                self.tell(f"desk: {done:,} blocks")
-            elif part.why:
-                self.fail(f"{title}: {part.why}" + (f", after {done} whole block{'s' * (done != 1)}" if done else ""))
+        # Closed at once where something fails, so that no process is left when the command ends.
+        with contextlib.closing(answers_of(file, self.desk_at, self.most)) as answers:
+            for desk, part, found in answers:
+                if found.wrong:
+                    self.fail(f"{title}: {found.wrong}" + (f"; the blocks from {done} on are not answered" if done else ""))
+                    return
+                heading = f"==> {title} <==\n" if self.headed and part.first == 0 and (found.blocks or not part.why) else ""
+                self.tell("")
+                put(heading.encode("utf-8") + os.pread(desk.text, found.length, 0))
+                done += found.blocks
+                self.refused.update(found.refused)
+                if not part.last:
+                    self.tell(f"desk: {done:,} blocks")
+                elif part.why:
+                    self.fail(f"{title}: {part.why}" + (f", after {done} whole block{'s' * (done != 1)}" if done else ""))
+                self.blocks += found.blocks
 
     def tell(self, words):
         """The line on a terminal that tells how far it is; it goes before anything else is written."""
@@ -432,6 +445,8 @@ def main():
     except Trouble as trouble:
         say(str(trouble))
         status = 2
+    except Unread:
+        status = 141
     except OSError as error:
         say(f"the command cannot go on: {error.strerror}")
         status = 2
