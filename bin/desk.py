@@ -68,12 +68,16 @@ class Unread(Exception):
     """Nobody reads standard output any more. Who has closed a pipe wants no more lines, and no word about it."""
 
 
-def say(words):
-    """A line on standard error; where that can't be written either, the status alone tells."""
+def tell(text):
+    """To standard error; where that can't be written either, the status alone tells."""
     try:
-        os.write(2, f"desk: {words}\n".encode("utf-8", "surrogateescape"))
+        os.write(2, text.encode("utf-8", "surrogateescape"))
     except OSError:
         pass
+
+
+def say(words):
+    tell(f"desk: {words}\n")
 
 
 def put(text):
@@ -179,13 +183,14 @@ class Desk:
             return Answer(0, 0, {}, None)
         try:
             answers = held_lines(self.run(part.size), part.size)
+            text = (plain_text(answers, part.first) if self.plain else people_text(answers, part.first, self.bytes)).encode("utf-8")
+            os.ftruncate(self.text, 0)
+            if os.pwrite(self.text, text, 0) != len(text):
+                raise Trouble("there is no room for its lines")
         except Trouble as trouble:
             return Answer(0, 0, {}, str(trouble))
         except OSError as error:
             return Answer(0, 0, {}, f"the program could not be run: {error.strerror}")
-        text = (plain_text(answers, part.first) if self.plain else people_text(answers, part.first, self.bytes)).encode("utf-8")
-        os.ftruncate(self.text, 0)
-        os.pwrite(self.text, text, 0)
         return Answer(len(text), len(answers), collections.Counter(int(words[2]) for words in answers if len(words) == 3), None)
 
 
@@ -304,11 +309,12 @@ def answers_of(file, desk_at, most):
                 desk = desk_at(len(places))
                 part = desk.read(file, first)
                 place = Here(desk) if most == 1 or part.last and not places else Worker(desk, places)
+                places.append(place)
             else:
                 place = places.popleft()
+                places.append(place)
                 yield place.desk, place.part, place.take()
                 part = place.desk.read(file, first)
-            places.append(place)
             place.give(part)
         for place in places:
             yield place.desk, place.part, place.take()
@@ -355,25 +361,25 @@ class Fleet:
                     self.fail(f"{title}: {found.wrong}" + (f"; the blocks from {done} on are not answered" if done else ""))
                     return
                 heading = f"==> {title} <==\n" if self.headed and part.first == 0 and (found.blocks or not part.why) else ""
-                self.tell("")
+                self.progress("")
                 put(heading.encode("utf-8") + os.pread(desk.text, found.length, 0))
                 done += found.blocks
                 self.refused.update(found.refused)
                 if not part.last:
-                    self.tell(f"desk: {done:,} blocks")
+                    self.progress(f"desk: {done:,} blocks")
                 elif part.why:
                     self.fail(f"{title}: {part.why}" + (f", after {done} whole block{'s' * (done != 1)}" if done else ""))
                 self.blocks += found.blocks
 
-    def tell(self, words):
+    def progress(self, words):
         """The line on a terminal that tells how far it is; it goes before anything else is written."""
         if self.looked_at and (words or self.told):
-            os.write(2, f"\r\033[K{words}".encode("utf-8", "surrogateescape"))
+            tell(f"\r\033[K{words}")
             self.told = bool(words)
 
     def fail(self, words):
         self.failed = True
-        self.tell("")
+        self.progress("")
         say(words)
 
     def end(self):
@@ -382,7 +388,7 @@ class Fleet:
         if self.looked_at:
             say(f"{self.blocks:,} ships, {self.blocks - refused:,} with bounds, {refused:,} refused")
             for number in sorted(self.refused):
-                say(f"{self.refused[number]:,} refused {number} ({REFUSALS.get(number, ('',))[0]})")
+                say(f"{self.refused[number]:,} {refusal(number).partition(':')[0]}")
         return 2 if self.failed else 1 if refused else 0
 
 
