@@ -8,20 +8,24 @@ use native.Mathlib.Omega.{arith}
 use borrow.Author.Tests.{ltb-true}
 use lib.Dec.{ltb}
 use lib.ListN.{length, take}
-use lib.Seq.{take-take}
+use lib.Seq.{take-take, length-take-le}
 use Rattle.streams.specs.declared.Got.{Got}
 use Rattle.streams.specs.Streams.{Filled, answered-of}
-use Rattle.streams.proofs.Reading.{answered-within}
+use Rattle.streams.proofs.Reading.{answered-within, going-all}
 use Rattle.lines.specs.Lines.{lines-of}
 use Rattle.lines.proofs.Files.{lines-append}
 use Rattle.fleet.specs.declared.Batch.{Batch}
 use Rattle.fleet.specs.Batches.{batch-after, batch-if, Begun, Follows}
 
--- The lines of a whole batch and of the batches after it are together the lines of the file.
-pub batches-join : (b : Batch) (whole rest : List ℕ) → length whole ≡ 65536
-    → lines-of (b .first) (whole ++ rest) ≡ lines-of (b .first) whole ++ lines-of (batch-after b true .first) rest
+-- Where the program goes on, the lines of what was read and of the batches after it are together the lines of the file.
+pub batches-join : (b : Batch) (g : Got) (blocks rest : List ℕ) → length blocks ≡ 65536 → Filled 65536 g → g .going ≡ true
+    → lines-of (b .first) (take (answered-of g) blocks ++ rest)
+    ≡ lines-of (b .first) (take (answered-of g) blocks) ++ lines-of (batch-after b (g .going) .first) rest
 unfolding batch-after
-batches-join b whole rest h = lines-append (b .first) 128 whole rest h
+batches-join b g blocks rest h f m =
+    let e : answered-of g ≡ 65536 = going-all f m in
+    let l : length (take (answered-of g) blocks) ≡ answered-of g = length-take-le (answered-of g) blocks (omega arith) in
+    lines-append (b .first) 128 (take (answered-of g) blocks) rest (omega arith)
 
 -- Where a batch follows one of the 512, it is one of them.
 pub begun-next : {b r : Batch} → Begun b → Follows b r → r .more ≡ true → Begun r

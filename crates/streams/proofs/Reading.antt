@@ -70,6 +70,15 @@ answered-within g = by-end (g .failed)
     by-end true = omega arith
     by-end false = omega arith
 
+-- Where more may come, all of a buffer is answered.
+pub going-all : {n : ℕ} {g : Got} → Filled n g → g .going ≡ true → answered-of g ≡ n
+unfolding answered-of
+going-all {n} {g} f h = by-end (g .failed) refl
+  where
+    by-end : (t : Bool) → g .failed ≡ t → if t (g .count / 512 * 512) (g .count) ≡ n
+    by-end true e = let k = f .last e in cc
+    by-end false e = f .full h
+
 -- What the code makes of an answer; `b` is the answer as the machine reads it back.
 pub after-is : (g : Got) (a : ℤ) {b : ℤ} (room m : ℕ) (f : Bool) → b ≡ a → m ≡ clamped b room → f ≡ ltZ b (pos 0)
     → record { count = g .count + m; going = ltb 0 m; failed = f } ≡ got-after g a room
