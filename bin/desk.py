@@ -115,6 +115,8 @@ def program_path():
 
 def program_words():
     """The command that runs the proved program under the kit."""
+    if not hasattr(os, "memfd_create"):
+        raise Trouble("Python 3.8 or newer, under Linux, is needed")
     if not os.path.exists(program_path()):
         raise Trouble(f"the program is not there: 'rt check fleet' in {shown(ROOT)} proves and makes it, and 'bin/prove fleet' tells how far it is")
     asked = subprocess.run([os.path.join(ROOT, "bin", "with-kit"), "--words", "fleet"], stdout=subprocess.PIPE, stderr=subprocess.DEVNULL)
