@@ -64,11 +64,11 @@ filled {n} {g} h l e = record { within = h; full = λ m. by-test m e; last = l }
 -- Only bytes that were read are answered, and where a read failed whole blocks of them.
 pub answered-within : (g : Got) → answered-of g ≤ g .count
 unfolding answered-of
-answered-within g = by-end (g .failed)
+answered-within g = either (g .failed) (omega arith) (omega arith)
   where
-    by-end : (t : Bool) → if t (g .count / 512 * 512) (g .count) ≤ g .count
-    by-end true = omega arith
-    by-end false = omega arith
+    either : (t : Bool) {a b : ℕ} → a ≤ g .count → b ≤ g .count → if t a b ≤ g .count
+    either true h k = h
+    either false h k = k
 
 -- Where more may come, all of a buffer is answered.
 pub going-all : {n : ℕ} {g : Got} → Filled n g → g .going ≡ true → answered-of g ≡ n
