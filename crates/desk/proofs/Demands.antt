@@ -13,12 +13,17 @@ use mathlib.Core.Logic.{_↔_}
 use mir.Val.{Val}
 use denote.Shadow.{shadow}
 use denote.Struct.Declared.{row}
-use Rattle.formula.specs.Formula.{_//_, Formula, below, above, bounds, Enclosed}
+use Rattle.formula.specs.Formula.{Frac, _//_, Formula, _↑_, Side, below, above, bounds, Enclosed}
 use Rattle.exact.specs.Ship.{Deadweight, Kind, Particulars, declared, bulk, general, IceClass, IB-or-IC, EEXI, EEDI-first, EEDI-amended, Figures}
-use Rattle.exact.specs.Ranges.{Range, low, high, Inside, Narrowed, Stands-for, most-favourable, least-favourable}
+use Rattle.exact.specs.Ranges.{Range, low, high, method-at, ship-at, Inside, Narrowed, Stands-for, most-favourable, least-favourable}
 use Rattle.formula.specs.Words.{whole, if}
-use Rattle.exact.specs.Index.{P-ME, emission, f-c, f-i, f-l, strengthened, f-m, speed, index}
+use Rattle.exact.specs.Index.{P-ME, emission, f-c, f-i, f-l, strengthened, f-m, speed, index, Speed-as-recorded, without-trial, declaring, Only-fractions}
 use Rattle.formula.proofs.Formulas.{consistent}
+use Rattle.formula.proofs.Powers.{power-of-one}
+use Rattle.number.specs.Ratio.{Moderate, cube-root-of}
+use Rattle.number.proofs.Ratios.{cube-root-of-is}
+use Rattle.power.specs.Power.{Raisable, one, power-of}
+use Rattle.power.proofs.Laws.{power-law}
 use Rattle.exact.proofs.Rules.{f-i-none, f-l-none, f-c-new}
 use Rattle.exact.proofs.Rules as rules
 use Rattle.exact.proofs.Favour.{stands-most, stands-least, inside-enclosed, ship-inside, low-inside, high-inside}
@@ -45,9 +50,10 @@ use Rattle.build_fields.specs.Fields.{build-from}
 use Rattle.layout.specs.Layout.{encode, ship-from, ship-in}
 use Rattle.block.specs.Answers.{length-refused, block-tests, read-refusal, read-of, loaded, write-refusal, write-of}
 use Rattle.block.proofs.Theorems as block
-use Rattle.propeller.specs.Propeller.{Speed}
+use Rattle.propeller.specs.Propeller.{exactly, Speed}
 use Rattle.index.specs.Attained.{speed-of, lower-of, upper-of, index-of}
 use Rattle.index.specs.declared.Index.{Index}
+use Rattle.index.proofs.Laws.{one-speed-one-index}
 use Rattle.index.proofs.Laws as law
 use Rattle.index.proofs.Editions.{bounds-under}
 use Rattle.factor.proofs.Laws.{vehicles-full}
@@ -151,17 +157,24 @@ module _ {s : Ship} {f : Figures ℕ} (t : Accepted-record s) (one : Stands-for 
   pub close : upper s * 100000 ≤ lower s * 100000 + upper s + 200000
   close = rw (lower-is t, upper-is t, stands-most one, stands-least one) (rw (stands-most one) at (law.near false (ranges-kept t)))
 
-  -- Of types 1 to 7 with a declared speed and f_c 1, f_i counted, they are the exact index rounded down and up.
-  module _ {v : Range} (method : figures s .method ≡ declared v) (other : figures s .ship .kind ≡ general → ⊥) (full : f-c (figures s .ship .kind) (figures s .ship) ≡ whole 1) where
-    pub rounded-down : (n : ℕ) → bounds below (index f) (n // 1000000) → n ≤ lower s
-    rounded-down n h = rw (lower-is t) (law.lower-greatest false (ranges-kept t) method other full n (rw (stands-most one) h))
+  -- Where only fractions enter, f_i counted, they are the exact index rounded down and up: types 1 to 7 with f_c 1 and a declared speed or a trial at
+  -- the sum of P_ME.
+  pub rounded-down : Only-fractions f → (n : ℕ) → bounds below (index f) (n // 1000000) → n ≤ lower s
+  rounded-down only n h = rw (lower-is t) (law.lower-greatest false (ranges-kept t) (rw (stands-most one) only) n (rw (stands-most one) h))
 
-    pub rounded-up : (n : ℕ) → bounds above (index f) (n // 1000000) → upper s ≤ n
-    rounded-up n h = rw (upper-is t) (law.upper-least true (ranges-kept t) method other full n (rw (stands-least one) h))
+  pub rounded-up : Only-fractions f → (n : ℕ) → bounds above (index f) (n // 1000000) → upper s ≤ n
+  rounded-up only n h = rw (upper-is t) (law.upper-least true (ranges-kept t) (rw (stands-least one) only) n (rw (stands-least one) h))
 
   -- The speed is enclosed in millionths of a knot, with a difference of at most a millionth of the upper one plus two.
   pub speed-enclosed : Speed (speed f) (speed-of f)
   speed-enclosed = rw (stands-most one) at (law.speed-is false (ranges-kept t))
+
+  -- Declared, or of a trial at the sum of P_ME, by method 3 besides with k 1 and at Capacity, it is the speed as recorded, and both its bounds are: of
+  -- every type, and whatever f_c.
+  pub speed-recorded : {v : ℕ} → Speed-as-recorded f v → Enclosed (speed f) (v // 100) (v // 100) × (speed-of f ≡ exactly (v * 10000))
+  speed-recorded {v} h =
+      let own : Speed-as-recorded (most-favourable (figures s)) v = rw (stands-most one) h in
+      rw (← stands-most one) (law.speed-exactly false (ranges-kept t) own, law.speed-recorded false (ranges-kept t) own)
 
 -- What encloses one index is in order.
 pub in-order : {e : Formula} {n m : ℕ} → Enclosed e (n // 1000000) (m // 1000000) → n ≤ m
@@ -256,6 +269,29 @@ ice-added = (refl, refl)
 pub ice-above : (ice : ℕ) → ice-refused ice ≡ true ↔ 2 < ice
 ice-above ice = (ltb-true 2 ice, lt-ltb 2 ice)
 
+-- ── A trial at rated power: document 02, Req 02 ─────────────────────────────────────────────
+
+-- 1 raised to any power is 1, on both sides of a formula.
+pub one-raised : {side : Side} {a : Formula} (e : Frac) → bounds side a (1 // 1) → bounds side (a ↑ e) (1 // 1)
+one-raised = power-of-one
+
+-- So promise the rules of powers, for every exponent that is taken, and of cube roots, at both ends.
+pub power-one : {a p q : ℕ} → Raisable a a p q → power-of a a p q ≡ one
+power-one h = power-law h .of-one refl
+
+pub root-one : {n : ℕ} → Moderate n n → (cube-root-of n n .low ≡ cube-root-of n n .scale) × (cube-root-of n n .high ≡ cube-root-of n n .scale)
+root-one h = cube-root-of-is h .of-one refl
+
+-- And a trial at the sum of P_ME has the bounds of the same ship with that speed declared, of every type and whatever f_c.
+pub as-if-declared : {s s' : Ship} {f : Figures ℕ} {v : ℕ} → Accepted-record s → Accepted-record s' → Stands-for (figures s) f → Stands-for (figures s') (declaring v f)
+    → Speed-as-recorded f v → (lower s ≡ lower s') × (upper s ≡ upper s')
+as-if-declared {f = f} {v} t t' stands stands' h =
+    let same = speed-recorded t stands h .1 ∙ sym (speed-recorded t' stands' without-trial .1) in
+    let both = one-speed-one-index f v same in (
+      lower-is t ∙ ap lower-of (stands-most stands) ∙ both .0 ∙ sym (lower-is t' ∙ ap lower-of (stands-most stands')),
+      upper-is t ∙ ap upper-of (stands-least stands) ∙ both .1 ∙ sym (upper-is t' ∙ ap upper-of (stands-least stands')),
+    )
+
 -- ── General cargo, cranes, common structural rules, layout 2: document 02, Req 03 ───────────
 
 -- 3 accepts layouts 1 and 2; 5 accepts types 1 to 7 in both, and 8 in layout 2 alone.
@@ -311,11 +347,17 @@ module _ {s : Ship} (t : Accepted-record s) (new : figures s .ship .edition ≡ 
 
   -- Of types 2 to 7 without ranges, light vehicle carriers too, the bounds are the exact EEDI rounded down and up.
   module _ {f : Figures ℕ} (one : Stands-for (figures s) f) (cargo : figures s .ship .kind ≡ bulk → ⊥) (other : figures s .ship .kind ≡ general → ⊥) where
+    new-fractions : Only-fractions f
+    unfolding ship-at method-at
+    new-fractions =
+        rw (← stands-most one)
+        (record { v = new-ship .speed .high; speed = rw (new-ship .method) without-trial; not-general = other; full = f-c-new (figures s .ship .kind) (figures s .ship) new cargo })
+
     pub new-rounded-down : (n : ℕ) → bounds below (index f) (n // 1000000) → n ≤ lower s
-    new-rounded-down = rounded-down t one (new-ship .method) other (f-c-new (figures s .ship .kind) (figures s .ship) new cargo)
+    new-rounded-down = rounded-down t one new-fractions
 
     pub new-rounded-up : (n : ℕ) → bounds above (index f) (n // 1000000) → upper s ≤ n
-    new-rounded-up = rounded-up t one (new-ship .method) other (f-c-new (figures s .ship .kind) (figures s .ship) new cargo)
+    new-rounded-up = rounded-up t one new-fractions
 
   -- She is accepted in every edition, so that what follows speaks of her in each.
   pub every-edition : (edition : ℕ) → edition ≤ 2 → Accepted-record (in-edition edition s)

@@ -21,8 +21,8 @@ use Rattle.ship.specs.Figures.{kinds, kind-of, last-edition, edition-of}
 use Rattle.ship.specs.Accepted.{Within, Each, Geared, Accepted-figures}
 use Rattle.ship.proofs.Numbered.{by-number}
 use Rattle.power.specs.declared.Bounds.{Bounds}
-use Rattle.power.specs.Power.{Raisable, power-of}
-use Rattle.factor.specs.Factor.{one, cargo-factor, vehicles-factor, vehicles-by, cranes-factor, factor-by, Factored}
+use Rattle.power.specs.Power.{Raisable, one, power-of}
+use Rattle.factor.specs.Factor.{cargo-factor, vehicles-factor, vehicles-by, cranes-factor, factor-by, Factored}
 use Rattle.factor.proofs.Inverses.{turned, above-one}
 use Rattle.factor.proofs.Lifting.{cranes-factored}
 

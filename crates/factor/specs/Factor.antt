@@ -10,11 +10,7 @@ use Rattle.formula.specs.Words.{if}
 use Rattle.number.specs.Division.{ceil-of}
 use Rattle.power.specs.declared.Bounds.{Bounds}
 use Rattle.power.specs.Numbers.{unit}
-use Rattle.power.specs.Power.{power-of}
-
--- Exactly 1.
-abbrev pub one : Bounds
-one = record { lo = unit; hi = unit }
+use Rattle.power.specs.Power.{one, power-of}
 
 -- A bulk carrier's: R to the power -0.15 is 1/R to the power 0.15, and the base of a power is at least 1.
 unfoldable pub cargo-factor : Deadweight → ℕ → Bounds

@@ -12,7 +12,8 @@ ghost use Rattle.ship.specs.Figures.{deadweight-of, last-edition, edition-of, c
 ghost use Rattle.ship.specs.Accepted.{Within, Geared};
 ghost use Rattle.ship.specs.Rules.{refusal-of};
 ghost use Rattle.ship.specs.declared.Refusal.the-variants as refusal;
-ghost use Rattle.factor.specs.Factor.{one, cargo-factor, vehicles-factor, vehicles-by, lifted-of, cranes-factor, factor-by};
+ghost use Rattle.power.specs.Power.{one};
+ghost use Rattle.factor.specs.Factor.{cargo-factor, vehicles-factor, vehicles-by, lifted-of, cranes-factor, factor-by};
 
 fn exactly_one() -> Bounds
     ensures { λ r. ⌜ r ≡ one ⌝ }

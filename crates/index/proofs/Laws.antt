@@ -10,9 +10,10 @@ use Rattle.formula.specs.Formula.{Frac, _//_, _≼_, _·_, Side, below, above, 
 use Rattle.exact.specs.Ship.{Deadweight, Kind, general, Engine, Method, declared, trial, design-trial, statistical, Figures}
 use Rattle.exact.specs.Ranges.{Range, low, high, engines-at, method-at, ship-at, Single, Settled, Firm, alike, Inside, Narrowed, most-favourable, least-favourable}
 use Rattle.formula.specs.Words.{whole}
-use Rattle.exact.specs.Index.{P-ME, sum-P-ME, main-emission, f-c, f-l, f-j, speed, emissions, load, transport, index}
+use Rattle.exact.specs.Index.{P-ME, sum-P-ME, main-emission, f-c, f-l, f-j, speed, emissions, load, transport, index, Speed-as-recorded, declaring, Only-fractions}
 use Rattle.formula.proofs.Fractions.{_≈_, lies-refl, lies-≈}
 use Rattle.formula.proofs.Formulas.{consistent, enclosed-wider, enclosed-sum}
+use Rattle.exact.proofs.Recorded.{as-recorded}
 use Rattle.exact.proofs.Favour.{Single-end, low-single, high-single, method-end, method-firm, ship-inside, low-inside, high-inside}
 use Rattle.number.proofs.Divisions.{floor-is, ceil-is, floor-greatest, ceil-least}
 use Rattle.power.specs.declared.Bounds.{Bounds}
@@ -24,7 +25,7 @@ use Rattle.plant.proofs.Growth.{end-within, emitting, main-inside, auxiliary-in
 use Rattle.factor.proofs.Laws.{Follows, factor-law}
 use Rattle.propeller.specs.Propeller.{exactly, Speed}
 use Rattle.speed.specs.Speeds.{Fitting, Accepted-speed, speed-by}
-use Rattle.speed.proofs.Laws.{declared-exact, speed-law}
+use Rattle.speed.proofs.Laws.{declared-exact, recorded-exact, speed-law}
 use Rattle.propeller.proofs.Sides.{at}
 use Rattle.index.specs.Attained.{millionths-down, millionths-up, Sized, main-of, emitted, Emission, speed-of, factor-of, lower-of, upper-of}
 use Rattle.index.proofs.Emissions.{Main, main-law, main-exact, main-order}
@@ -198,15 +199,32 @@ module _ (top : Bool) {r : Figures Range} (a : Accepted-figures r) where
 
   -- ── Where only fractions enter ────────────────────────────────────────────────────────────
 
-  -- Of types 1 to 7 with a declared speed and f_c 1, the bounds are the exact index rounded down and up: no whole number of millionths that lies
-  -- below the index is above the lower bound, and none that lies above it is below the upper one.
-  module _ {w : Range} (method : r .method ≡ declared w) (other-type : r .ship .kind ≡ general → ⊥) (light : f-c (r .ship .kind) (r .ship) ≡ whole 1) where
+  -- Where every power in the speed is one of 1 it is the one recorded, and so are both its bounds.
+  pub speed-exactly : {w : ℕ} → Speed-as-recorded (at-end top r) w → Enclosed (speed (at-end top r)) (w // 100) (w // 100)
+  unfolding ship-at speed
+  speed-exactly = as-recorded (omega (arith, power-within .least)) (omega (arith, a .deadweight .least))
+
+  pub speed-recorded : {w : ℕ} → Speed-as-recorded (at-end top r) w → speed-of (at-end top r) ≡ exactly (w * 10000)
+  unfolding ship-at speed-of
+  speed-recorded = recorded-exact speed-accepted
+
+  -- There the bounds are the exact index rounded down and up: no whole number of millionths that lies below the index is above the lower bound, and
+  -- none that lies above it is below the upper one.
+  module _ (only : Only-fractions (at-end top r)) where
     knots : ℕ
-    knots = end (not top) w * 10000
+    knots = only .v * 10000
+
+    other-type : r .ship .kind ≡ general → ⊥
+    unfolding ship-at
+    other-type = only .not-general
+
+    light : f-c (r .ship .kind) (r .ship) ≡ whole 1
+    unfolding ship-at
+    light = only .full
 
     speed-exact : speed-of (at-end top r) ≡ exactly knots
-    unfolding ship-at speed-of method-at knots
-    speed-exact = rw method (declared-exact _ _ _ _)
+    unfolding knots
+    speed-exact = speed-recorded (only .speed)
 
     at-speed : (s : Side) → at s v ≡ knots
     at-speed below = ap (at below) speed-exact
@@ -249,6 +267,11 @@ module _ (top : Bool) {r : Figures Range} (a : Accepted-figures r) where
         let k : (N * 1000) // (L * knots) ≼ t // 1000000 = consistent _ (exact-index below) h in
         let x : N * 1000 * 1000000 ≤ t * (L * knots) = rw (suc-pred-eq-of-pos work-some) at (k .cross) in
         ceil-least (upper-ceil sized-upper) t (rw (at-speed below, at-factor below, at-emission above) (omega arith))
+
+-- Of one speed there is one pair of bounds, whatever method it came by.
+pub one-speed-one-index : (f : Figures ℕ) (v : ℕ) → speed-of f ≡ speed-of (declaring v f) → (lower-of f ≡ lower-of (declaring v f)) × (upper-of f ≡ upper-of (declaring v f))
+unfolding lower-of upper-of emitted factor-of main-N auxiliary-N
+one-speed-one-index f v e = (rw e, rw e)
 
 -- ── Demand 3 ────────────────────────────────────────────────────────────────────────────────
 

@@ -1,18 +1,19 @@
 -- The shape that methods 2 to 4 share, in whole numbers: what its two ends are at most and at least, and how near they are.
 -- Assumes nothing.
-use Prim.Native.Nat.{ℕ, _+_, _*_, _^_, _≤_, _<_}
+use mathlib.Core.Path.{_≡_, ap₂}
+use Prim.Native.Nat.{ℕ, _+_, _*_, _/_, _^_, _≤_, _<_}
 use native.Mathlib.Nat.{mul-le-mul-right, mul-le-mul-left, mul-le-mul, mul-pos, le-of-mul-le-mul-right, le-trans, one-le-pow, pow-le-pow-left}
 use native.Mathlib.Omega.{arith}
 use lib.Dec.{lit≤}
 use Rattle.formula.proofs.Wholes.{mul-pow}
-use Rattle.number.specs.Division.{Floor, Ceil}
+use Rattle.number.specs.Division.{Floor, Ceil, ceil-of}
 use Rattle.number.specs.Ratio.{Moderate, CubeRoot, cube-root-of}
-use Rattle.number.proofs.Divisions.{floor-is, ceil-is}
+use Rattle.number.proofs.Divisions.{floor-is, ceil-is, floor-named, ceil-named, floor-cancel, ceil-cancel}
 use Rattle.number.proofs.Gaps.{Gap, gap-product, gap-rounded}
 use Rattle.number.proofs.Ratios.{cube-root-of-is, root-low, root-high, root-near, units-some, units-few}
 use Rattle.power.specs.declared.Bounds.{Bounds}
 use Rattle.propeller.specs.declared.Split.{Split}
-use Rattle.propeller.specs.Propeller.{Parted, speed-from}
+use Rattle.propeller.specs.Propeller.{pair, Parted, speed-from}
 
 -- ── How near the two ends are ───────────────────────────────────────────────────────────────
 
@@ -80,3 +81,17 @@ module _ {s : Split} {n d : ℕ} (p : Parted s) (m : Moderate n d) where
                 ends-near (cube-root-of n d .scale * 1000) over-some over-some' (omega (arith, p .near)) (omega (arith, root-near (m .some) root .1, root-low (m .some) root))
                 (omega (arith, p .over-near)) f g;
           }
+
+  -- Where the powers are equal their root is 1, and base / over alone decides.
+  pub at-one : n ≡ d → speed-from s n d ≡ pair (s .base .lo * 2 ^ 30 / (s .over .hi * 1000)) (ceil-of (s .base .hi * 2 ^ 30) (s .over .lo * 1000))
+  unfolding speed-from
+  at-one e = rw (root .of-one e .0, root .of-one e .1) (ap₂ pair low high)
+    where
+      u : ℕ
+      u = cube-root-of n d .scale
+
+      low : s .base .lo * u * 2 ^ 30 / (s .over .hi * (u * 1000)) ≡ s .base .lo * 2 ^ 30 / (s .over .hi * 1000)
+      low = floor-named (omega (arith, p .over-low, p .over-order)) (floor-cancel u (units-some (m .some) root) (omega arith) (omega arith) (floor-is _ _ over-some'))
+
+      high : ceil-of (s .base .hi * u * 2 ^ 30) (s .over .lo * (u * 1000)) ≡ ceil-of (s .base .hi * 2 ^ 30) (s .over .lo * 1000)
+      high = ceil-named (omega (arith, p .over-low)) (ceil-cancel u (units-some (m .some) root) (omega arith) (omega arith) (ceil-is _ _ over-some))

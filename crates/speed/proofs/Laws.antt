@@ -4,7 +4,7 @@ use mathlib.Core.Path.{_≡_, refl}
 use native.Mathlib.Omega.{arith}
 use Rattle.formula.specs.Formula.{_//_, below, above, lit, by-lit}
 use Rattle.exact.specs.Ship.{Deadweight, Kind, Method, declared, trial, design-trial, statistical}
-use Rattle.exact.specs.Index.{V-ref}
+use Rattle.exact.specs.Index.{V-ref, As-recorded, without-trial, at-P-ME, at-P-ME-and-Capacity}
 use Rattle.formula.proofs.Fractions.{_≈_, lies-≈}
 use Rattle.ship.specs.Accepted.{Within}
 use Rattle.propeller.specs.Propeller.{exactly, Speed}
@@ -12,6 +12,7 @@ use Rattle.speed.specs.Speeds.{Accepted-speed, speed-by}
 use Rattle.statistical.proofs.Statistics.{statistical-speed}
 use Rattle.speed.proofs.Trials.{trial-speed}
 use Rattle.speed.proofs.Designs.{design-speed}
+use Rattle.speed.proofs.Recorded.{trial-recorded, design-recorded}
 
 -- A declared speed is exactly itself.
 pub declared-exact : (v : ℕ) (kind : Kind) (dwt : Deadweight) (P : ℕ) → speed-by (declared v) kind dwt P ≡ exactly (v * 10000)
@@ -35,3 +36,11 @@ speed-law (trial v kW) kind dwt P a = trial-speed kind dwt (a .method .0) (a .me
 speed-law (design-trial v kW tested) kind dwt P a =
     design-speed tested kind dwt (a .deadweight) (a .method .3) (a .method .0) (a .method .4) (a .method .1 .least) (a .power .most) (a .method .2)
 speed-law statistical kind dwt P a = statistical-speed kind dwt P (a .deadweight) (a .power)
+
+-- Where every power in it is one of 1, both ends are the speed as it was recorded.
+pub recorded-exact : {m : Method ℕ} {kind : Kind} {dwt : Deadweight} {P v : ℕ} → Accepted-speed m kind dwt P → As-recorded m kind dwt P v → speed-by m kind dwt P ≡ exactly (v * 10000)
+unfolding speed-by
+recorded-exact {kind = kind} {dwt} {P} {v} a without-trial = declared-exact v kind dwt P
+recorded-exact a (at-P-ME e) = trial-recorded (a .method .0) (a .method .1 .least) (a .power .most) (a .method .2) e
+recorded-exact {dwt = dwt} a (at-P-ME-and-Capacity {kind = kind} {tested = tested} e f g) =
+    design-recorded tested kind dwt (a .deadweight) (a .method .3) (a .method .0) (a .method .1 .least) (a .power .most) (a .method .2) e f g
