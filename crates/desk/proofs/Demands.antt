@@ -15,9 +15,9 @@ use denote.Shadow.{shadow}
 use denote.Struct.Declared.{row}
 use Rattle.formula.specs.Formula.{Frac, _//_, Formula, _↑_, Side, below, above, bounds, Enclosed}
 use Rattle.exact.specs.Ship.{Deadweight, Kind, Particulars, declared, bulk, general, IceClass, IB-or-IC, EEXI, EEDI-first, EEDI-amended, Figures}
-use Rattle.exact.specs.Ranges.{Range, low, high, method-at, ship-at, Inside, Narrowed, Stands-for, most-favourable, least-favourable}
-use Rattle.formula.specs.Words.{whole, if}
-use Rattle.exact.specs.Index.{P-ME, emission, f-c, f-i, f-l, strengthened, f-m, speed, index, Speed-as-recorded, without-trial, declaring, Only-fractions}
+use Rattle.exact.specs.Ranges.{low, high, method-at, ship-at, Inside, Narrowed, Stands-for, most-favourable, least-favourable}
+use Rattle.formula.specs.Words.{if}
+use Rattle.exact.specs.Index.{P-ME, emission, f-i, f-l, strengthened, f-m, speed, index, Speed-as-recorded, without-trial, declaring, Only-fractions}
 use Rattle.formula.proofs.Formulas.{consistent}
 use Rattle.formula.proofs.Powers.{power-of-one}
 use Rattle.number.specs.Ratio.{Moderate, cube-root-of}

@@ -2,7 +2,7 @@
 use mathlib.Core.Path.{_≡_}
 use Prim.Native.Nat.{ℕ, _*_, _<_}
 use native.Mathlib.Omega.{arith}
-use Rattle.formula.specs.Formula.{Frac, _//_, _·_, below, above, Formula, lit, _⊗_, _⊘_, _↑_, by-quotient, Enclosed}
+use Rattle.formula.specs.Formula.{Frac, _//_, _·_, below, above, Formula, lit, _⊘_, _↑_, by-quotient, Enclosed}
 use Rattle.formula.specs.Words.{whole, percent}
 use Rattle.formula.proofs.Fractions.{_≈_, lies-≈}
 use Rattle.formula.proofs.Formulas.{enclosed-≈, enclosed-lit, enclosed-product}

@@ -10,7 +10,7 @@ use Rattle.formula.specs.Formula.{Frac, _//_, _≼_, _·_, Side, below, above, 
 use Rattle.exact.specs.Ship.{Deadweight, Kind, general, Engine, Method, declared, trial, design-trial, statistical, Figures}
 use Rattle.exact.specs.Ranges.{Range, low, high, engines-at, method-at, ship-at, Single, Settled, Firm, alike, Inside, Narrowed, most-favourable, least-favourable}
 use Rattle.formula.specs.Words.{whole}
-use Rattle.exact.specs.Index.{P-ME, sum-P-ME, main-emission, f-c, f-l, f-j, speed, emissions, load, transport, index, Speed-as-recorded, declaring, Only-fractions}
+use Rattle.exact.specs.Index.{P-ME, sum-P-ME, main-emission, f-c, f-j, speed, emissions, load, transport, index, Speed-as-recorded, declaring, Only-fractions}
 use Rattle.formula.proofs.Fractions.{_≈_, lies-refl, lies-≈}
 use Rattle.formula.proofs.Formulas.{consistent, enclosed-wider, enclosed-sum}
 use Rattle.exact.proofs.Recorded.{as-recorded}

@@ -1,6 +1,6 @@
 -- Each factor of a trial's speed that is a power of 1 is exactly 1, and the others alone decide; where all are, both ends are the speed as it was
 -- recorded. Assumes nothing.
-use mathlib.Core.Path.{_≡_, refl, sym, ap, ap₂, _∙_}
+use mathlib.Core.Path.{_≡_, refl, sym, ap₂, _∙_}
 use Prim.Native.Nat.{ℕ, _*_, _/_, _^_, _≤_}
 use native.Mathlib.Nat.{le-of-eq}
 use native.Mathlib.Omega.{arith}
@@ -11,10 +11,9 @@ use Rattle.exact.specs.Index.{Capacity, k}
 use Rattle.number.specs.Division.{ceil-of}
 use Rattle.number.proofs.Divisions.{multiple}
 use Rattle.power.specs.declared.Bounds.{Bounds}
-use Rattle.power.specs.Power.{one, power-of}
 use Rattle.power.proofs.Laws.{power-law}
 use Rattle.ship.specs.Accepted.{Within, Near}
-use Rattle.propeller.specs.Propeller.{pair, exactly, Parted, speed-from}
+use Rattle.propeller.specs.Propeller.{pair, exactly, speed-from}
 use Rattle.propeller.proofs.Products.{at-one}
 use Rattle.speed.specs.Speeds.{undivided, trial-of, k-root-of, Fives, times-of, up-of, parts-of, design-of}
 use Rattle.speed.proofs.Trials.{trial-parted, trial-moderate}
