@@ -17,7 +17,7 @@ pub const DOUBLE_ERROR: f64 = 1e-12;
 #[derive(Clone, Copy, Debug, PartialEq)]
 pub enum Answer {
     Refused(u8),
-    // Types 1 to 7, method 1 and f_c = 1: the exact fraction's floor and ceiling.
+    // Types 1 to 7 with f_c = 1, by a declared speed or a trial at rated power: the exact fraction's floor and ceiling.
     Exact { imo: u32, lower: u64, upper: u64 },
     // The index of the most and of the least favourable ship, in millionths.
     Near { imo: u32, favourable: f64, least: f64, ranged: bool },
@@ -208,6 +208,28 @@ impl Ship {
     pub fn has_cargo_factor(&self) -> bool {
         self.has_light_cargo() && (self.kind != 7 || self.edition == 0)
     }
+    // k of a trial at design draught, in hundredths: 1 for the largest bulk carriers and tankers alone.
+    pub fn scale(&self) -> u64 {
+        match (self.kind, self.deadweight) {
+            (4, 0..=120_000) => 95,
+            (4, _) => 93,
+            (1, 0..=200_000) | (3, 0..=100_000) => 97,
+            _ => 100,
+        }
+    }
+    // A trial at just the sum of P_ME, and at design draught besides at Capacity and with k 1: V_ref is the trial's speed times powers of 1.
+    pub fn is_at_rated_power(&self) -> bool {
+        let rated = 100 * self.trial_power as u64 == self.main_power(0);
+        match self.method {
+            2 => rated,
+            3 => rated && self.scale() == 100 && 10 * self.trial_deadweight as u64 == self.capacity(),
+            _ => false,
+        }
+    }
+    // Only fractions enter her index: V_ref is a recorded speed and f_c is 1. A general cargo ship has f_j besides.
+    pub fn has_fraction(&self) -> bool {
+        self.kind != 8 && (self.method == 1 || self.is_at_rated_power()) && !self.has_cargo_factor()
+    }
     fn light_cargo_factor(&self) -> f64 {
         match self.kind {
             _ if !self.has_cargo_factor() => 1.0,
@@ -374,12 +396,7 @@ fn statistics(ship: &Ship) -> (f64, f64) {
 }
 
 fn draught_factor(ship: &Ship) -> f64 {
-    let k: f64 = match (ship.kind, ship.deadweight) {
-        (4, 0..=120_000) => 0.95,
-        (4, _) => 0.93,
-        (1, 0..=200_000) | (3, 0..=100_000) => 0.97,
-        _ => 1.0,
-    };
+    let k = ship.scale() as f64 / 100.0;
     k.cbrt() * (10.0 * ship.trial_deadweight as f64 / ship.capacity() as f64).powf(2.0 / 9.0)
 }
 
@@ -417,7 +434,7 @@ pub fn answer(block: &[u8]) -> Answer {
         Err(number) => return Answer::Refused(number),
     };
     let imo = ship.imo;
-    if ship.kind != 8 && ship.method == 1 && !ship.has_cargo_factor() {
+    if ship.has_fraction() {
         let (lower, _) = divide(fraction(&ship, 0));
         let (whole, left) = divide(fraction(&ship, 1));
         return Answer::Exact { imo, lower, upper: whole + left as u64 };

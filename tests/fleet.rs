@@ -15,6 +15,8 @@ mod hold;
 mod hulls;
 #[path = "program.rs"]
 mod program;
+#[path = "rated.rs"]
+mod rated;
 #[path = "ships.rs"]
 mod ships;
 #[path = "slips.rs"]
@@ -24,7 +26,9 @@ use desk::{Answer, BLOCK, MOST_BLOCKS};
 use edges::*;
 use editions::*;
 use hulls::*;
+use rated::*;
 use ships::*;
+use std::collections::HashSet;
 use std::process::exit;
 use std::thread::spawn;
 
@@ -327,6 +331,14 @@ fn blocks(random: &mut Random) -> Vec<Block> {
         }
         all.push(block);
     }
+    for (block, exact) in at_rated_power(random) {
+        match desk::answer(&block) {
+            Answer::Exact { .. } if exact => {}
+            Answer::Near { .. } if !exact => {}
+            answer => fail(&format!("the reference gives {:?} to a trial at rated power that is exact: {}", answer, exact)),
+        }
+        all.push(block);
+    }
     for at in 1..all.len() {
         all.swap(at, random.from(0, at as u64) as usize);
     }
@@ -345,6 +357,7 @@ struct Count {
     no_eedi: [u64; 3],
     coasters: Coasters,
     new_ships: NewShips,
+    trials: Trials,
     ice: [u64; 3],
     whole: u64,
     exact: u64,
@@ -436,6 +449,108 @@ impl Coasters {
     }
 }
 
+// Trials at rated power, each counted once whatever her IMO number.
+#[derive(Default)]
+struct Trials {
+    seen: HashSet<Vec<u8>>,
+    // The exact ones: by method, 2 before 3, and type; by what they have.
+    exact: [[u64; 8]; 2],
+    engines: [u64; 5],
+    ice: [u64; 3],
+    // Some limiter that binds, and some that doesn't.
+    limited: [u64; 2],
+    structural: u64,
+    ranged: u64,
+    whole: u64,
+    // Those that are not, by what keeps them from it, in the order of BESIDE.
+    beside: [u64; 7],
+}
+
+// What keeps a trial at or near rated power from being exact, and how many of each there have to be.
+const BESIDE: [(&str, u64); 7] = [
+    ("one kW off", 6_000),
+    ("less than a kW off", 1_000),
+    ("one tonne off Capacity", 3_000),
+    ("k below 1, bulk carriers and tankers", 500),
+    ("k below 1, container ships", 500),
+    ("f_c other than 1", 900),
+    ("general cargo", 600),
+];
+
+// Its place in BESIDE; everything else about the ship would let her be exact.
+fn beside(ship: &desk::Ship) -> Option<usize> {
+    let off = (100 * ship.trial_power as i64 - ship.main_power(0) as i64).abs();
+    let tonnes = if ship.method == 3 { (10 * ship.trial_deadweight as i64 - ship.capacity() as i64).abs() } else { 0 };
+    let scaled = ship.method == 3 && ship.scale() < 100;
+    match (off, tonnes) {
+        (0, 0) if scaled => Some(if ship.kind == 4 { 4 } else { 3 }),
+        _ if scaled => None,
+        (0, 0) if ship.has_cargo_factor() => Some(5),
+        (0, 0) if ship.kind == 8 => Some(6),
+        _ if ship.has_cargo_factor() || ship.kind == 8 => None,
+        (100, 0) => Some(0),
+        (1..=99, 0) => Some(1),
+        (0, 10) => Some(2),
+        _ => None,
+    }
+}
+
+impl Trials {
+    // A ship by method 2 or 3.
+    fn add(&mut self, block: &[u8], ship: &desk::Ship, answer: Answer) {
+        let exact = match answer {
+            Answer::Exact { lower, upper, .. } => Some(lower == upper),
+            _ => None,
+        };
+        let place = beside(ship);
+        if exact.is_none() && place.is_none() || !self.seen.insert([&block[..4], &block[8..508]].concat()) {
+            return;
+        }
+        if let Some(whole) = exact {
+            self.whole += whole as u64;
+            return self.add_exact(ship);
+        }
+        self.beside[place.unwrap()] += 1;
+    }
+    fn add_exact(&mut self, ship: &desk::Ship) {
+        let used = &ship.engine[..ship.engines as usize];
+        let binds = |engine: &desk::Engine| engine.main_power(0) < 75 * engine.mcr[0] as u64;
+        self.exact[ship.method as usize - 2][ship.kind as usize] += 1;
+        self.engines[used.len()] += 1;
+        self.ice[ship.ice as usize] += 1;
+        self.limited[0] += used.iter().any(binds) as u64;
+        self.limited[1] += used.iter().any(|engine| engine.limit > 0 && !binds(engine)) as u64;
+        self.structural += (ship.lightweight > 0) as u64;
+        self.ranged += ship.has_ranges() as u64;
+    }
+    // What is counted, how many there are and how many there have to be.
+    fn wants(&self) -> Vec<(String, u64, u64)> {
+        let of = |what: String| format!("rated power, {}", what);
+        let mut wants = vec![
+            (of("different".to_string()), self.exact.iter().flatten().sum(), 5_000),
+            (of("f_i".to_string()), self.structural, 500),
+            (of("ranged".to_string()), self.ranged, 1_500),
+            (of("whole".to_string()), self.whole, 300),
+        ];
+        wants.extend((1..8).map(|kind| (of(format!("method 2 type {}", kind)), self.exact[0][kind], 500)));
+        wants.extend([1, 3].iter().map(|kind| (of(format!("method 3 type {}", kind)), self.exact[1][*kind], 800)));
+        wants.extend((1..5).map(|count| (of(format!("{} engines", count)), self.engines[count], 500)));
+        wants.extend((0..3).map(|class| (of(format!("ice class {}", class)), self.ice[class], 1_000)));
+        wants.extend((0..2).map(|way| (of(format!("limiters {}", ["that bind", "that don't"][way])), self.limited[way], 500)));
+        wants.extend((0..BESIDE.len()).map(|place| (of(BESIDE[place].0.to_string()), self.beside[place], BESIDE[place].1)));
+        wants
+    }
+    fn print(&self) {
+        let Trials { exact, engines, ice, limited, structural, ranged, whole, .. } = self;
+        let all: u64 = exact.iter().flatten().sum();
+        println!("fleet: at rated power {} different, all exact: by method 2 of types 1-7 {:?}, by method 3 {:?}", all, &exact[0][1..], &exact[1][1..]);
+        print!("fleet: of these with 1-4 engines {:?}, with limiters that bind and that don't {:?}, ", &engines[1..], limited);
+        println!("ice classes {:?}, with f_i {}, ranges {}, whole {}", ice, structural, ranged, whole);
+        let beside: Vec<String> = BESIDE.iter().zip(&self.beside).map(|((what, _), count)| format!("{} {}", what, count)).collect();
+        println!("fleet: beside them, not exact: {}", beside.join(", "));
+    }
+}
+
 impl Count {
     fn add(&mut self, block: &[u8], answer: Answer) {
         let ship = match answer {
@@ -449,6 +564,9 @@ impl Count {
         }
         if ship.kind == 8 {
             self.coasters.add(&ship);
+        }
+        if ship.method == 2 || ship.method == 3 {
+            self.trials.add(block, &ship, answer);
         }
         if let Answer::Exact { lower, upper, .. } = answer {
             self.whole += (lower == upper) as u64;
@@ -496,7 +614,9 @@ impl Count {
         for (way, what) in ["with a limiter", "without a source", "by methods 2-4"].iter().enumerate() {
             want(format!("EEXI in layout 2, {}", what), self.no_eedi[way], 5_000);
         }
-        self.new_ships.wants().into_iter().for_each(|(what, count, least)| want(what, count, least));
+        for (what, count, least) in self.new_ships.wants().into_iter().chain(self.trials.wants()) {
+            want(what, count, least);
+        }
         want("f_i".to_string(), self.structural[0] + self.structural[1], 10_000);
         want("f_i, exact".to_string(), self.structural[1], 2_000);
         want("general cargo, ranged".to_string(), self.coasters.ranged, 5_000);
@@ -523,6 +643,7 @@ impl Count {
         println!("fleet: EEXI in layout 2 by types 1-8: {:?}; with f_i {:?}, the latter exact", &self.newer[1..], self.structural);
         println!("fleet: EEXI in layout 2 with a limiter, without a source, by methods 2-4: {:?}", self.no_eedi);
         self.new_ships.print();
+        self.trials.print();
         let Coasters { ranged, with_cranes, caps, near_caps } = &self.coasters;
         println!("fleet: general cargo with ranges {}, with cranes {}", ranged, with_cranes);
         println!("fleet: Fn up to 0.6 and above, each with f_j up to 1 and above: {:?}; close to these caps: {:?}", caps, near_caps);
@@ -663,6 +784,22 @@ fn same_in_every_edition(program: &[String], all: &[Block]) -> usize {
     same_words(program, "edition", &plain, EDITION, &[0, 1, 2]) + same_words(program, "class IA, edition", &iced, EDITION, &[0, 2])
 }
 
+// A trial at rated power gets the very words of the same ship when she declares the trial's speed. The ships are counted already.
+fn same_declared(program: &[String], all: &[Block]) -> usize {
+    let kinds = older_kinds().into_iter().filter(|(_, method)| *method == 2 || *method == 3).collect();
+    let mut ships = accepted(all, kinds, |ship| ship.is_at_rated_power() && ship.has_fraction(), 300);
+    let (lines, wrong) = run(program, "at rated power", &bytes_of(&ships), How::Pipe, &mut Count::default());
+    for ship in ships.iter_mut() {
+        [(METHOD, 1), (TRIAL_POWER, 0), (TRIAL_DEADWEIGHT, 0)].iter().for_each(|(field, value)| put(ship, *field, *value));
+        seal(ship);
+    }
+    let (declared, more) = run(program, "declared", &bytes_of(&ships), How::Pipe, &mut Count::default());
+    if let Some((line, right)) = lines.iter().zip(&declared).find(|(line, right)| line != right) {
+        fail(&format!("on trial at rated power a ship is answered '{}', declared '{}'", line, right));
+    }
+    wrong + more
+}
+
 // A last piece of each length from 1 to 511, alone or after ship S; two runs at a time.
 fn tails(program: &[String]) -> Vec<String> {
     let part = |program: Vec<String>, parity: usize| spawn(move || {
@@ -739,6 +876,7 @@ fn main() {
         wrong += same_in_layout_2(&program, &all);
         wrong += same_in_every_class(&program, &all);
         wrong += same_in_every_edition(&program, &all);
+        wrong += same_declared(&program, &all);
     }
     reader_gone(&program, &all);
     let short = tails(&program);
