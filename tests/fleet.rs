@@ -131,6 +131,7 @@ fn figures(program: &[String]) {
     blocks.extend(edition_figures());
     blocks.extend(edition_refusals());
     blocks.extend(vehicle_carriers());
+    blocks.extend(rated_trials());
     let mut bytes: Vec<u8> = blocks.iter().flat_map(|(block, _)| block.to_vec()).collect();
     bytes.extend(&ship_s()[..511]);
     let mut right: String = blocks.iter().enumerate().map(|(number, (_, line))| format!("{} {}\n", number, line)).collect();
@@ -217,6 +218,36 @@ fn vehicle_carriers() -> Vec<(Block, &'static str)> {
         (vehicle_carrier(2), "9074729 14992611 14992612"),
         (iced(1), "9074729 14992611 14992612"),
         (iced(2), "9074729 14278677 14278678"),
+    ]
+}
+
+// S on a trial of 14.50 knots at 6,000 kW, which is her P_ME: 3,619,600 g/h over 50,000 t x 14.5 knots is 4.992551724 g. With 175.0 to
+// 180.0 g/kWh her most favourable ship has 3,526,180 g/h and 4.863696 g. With limits of 7,050 kW (5,851.5) and a second engine of
+// 2,002 kW (1,501.5) the sum is 7,353 kW; the auxiliaries have 500.05 kW, all together 4,442,135.62 g/h and 6.127083 g.
+// At design draught and Capacity, k being 1: over 250,000 t 0.998510 g, with a lightweight of 25,000 t over 252,000 t 0.990585 g and in
+// class IA 0.943414 g; as a tanker over 100,001 t 2.496250 g.
+fn rated_trials() -> Vec<(Block, &'static str)> {
+    let at = |power: u64, tonnes: u64, figures: &[(Field, u64)]| like_s(&|block| {
+        for (field, value) in [(METHOD, if tonnes > 0 { 3 } else { 2 }), (TRIAL_POWER, power), (TRIAL_DEADWEIGHT, tonnes)].iter().chain(figures) {
+            put(block, *field, *value);
+        }
+        put_both(block, SPEED, 1_450);
+    });
+    let second = [(ENGINES, 2), (limit(0), 7_050), (mcr(1)[0], 2_002), (mcr(1)[1], 2_002)];
+    let mut two = at(7_353, 0, &second);
+    put_consumption(&mut two, 1, [1_800, 1_800], 3, 1);
+    let large = [(DEADWEIGHT, 250_000), (CARGO_VOLUME, 300_000)];
+    let structural = [(LAYOUT, 2), (DEADWEIGHT, 250_000), (CARGO_VOLUME, 300_000), (LIGHTWEIGHT, 25_000)];
+    let mut iced = at(6_000, 250_000, &structural);
+    put(&mut iced, ICE, 1);
+    vec![
+        (at(6_000, 0, &[]), "9074729 4992551 4992552"),
+        (at(6_000, 0, &[(consumption(0).0[0], 1_750)]), "9074729 4863696 4992552"),
+        (sealed(two), "9074729 6127083 6127084"),
+        (at(6_000, 250_000, &large), "9074729 998510 998511"),
+        (at(6_000, 250_000, &structural), "9074729 990585 990586"),
+        (sealed(iced), "9074729 943414 943415"),
+        (at(6_000, 100_001, &[(TYPE, 3), (CARGO_VOLUME, 0), (DEADWEIGHT, 100_001)]), "9074729 2496250 2496251"),
     ]
 }
 

@@ -1,5 +1,5 @@
-// The coaster, ship S under the common structural rules and new ships as a desk would have them that reads one rule wrongly: each such
-// line must be caught, and the line of the right reading must not.
+// The coaster, ship S under the common structural rules, new ships and trials at rated power as a desk would have them that reads one
+// rule wrongly: each such line must be caught, and the line of the right reading must not.
 use desk;
 use hold;
 use ships::*;
@@ -47,7 +47,9 @@ fn right(knots: f64, tonnes: f64) -> Reading {
 }
 
 // A ship, her index by the right reading, and by wrong ones.
-fn coasters() -> Vec<(Block, f64, Vec<(&'static str, f64)>)> {
+type Indexes = (Block, f64, Vec<(&'static str, f64)>);
+
+fn coasters() -> Vec<Indexes> {
     let (slow, middle, quick, trial) = (right(10.0, 0.0), right(14.0, 178.4), right(18.0, 0.0), right(12.0 * 2f64.cbrt(), 0.0));
     let added = |tonnes: f64| Reading { tonnes, ..middle }.index();
     let full = |fullness: f64| Reading { fullness, ..middle }.index();
@@ -81,7 +83,7 @@ fn coasters() -> Vec<(Block, f64, Vec<(&'static str, f64)>)> {
 }
 
 // Ship S with a lightweight of 10,000 t: f_i is 1.016.
-fn bulk_carrier() -> (Block, f64, Vec<(&'static str, f64)>) {
+fn bulk_carrier() -> Indexes {
     let mut block = ship_s();
     put(&mut block, LAYOUT, 2);
     put(&mut block, LIGHTWEIGHT, 10_000);
@@ -112,7 +114,7 @@ fn s_at(kilowatts: f64) -> f64 {
 
 // New ships. S in class IA has f_m in the amended edition (2) and not in the first (1); the vehicle carrier, 5,397,340 g/h over 20,000 t
 // x 18 knots, has f_c 1 in both; the light bulk carrier, S with R 0.5, keeps hers, and the coaster f_j and f_l.
-fn new_ships() -> Vec<(Block, f64, Vec<(&'static str, f64)>)> {
+fn new_ships() -> Vec<Indexes> {
     let s = |class: u64, edition: u64| in_edition(s_with(&[(ICE, class)]), edition);
     let vehicle = 1e6 * 5_397_340.0 / 360_000.0;
     let (vehicle_factor, light_factor) = (1.05f64.powf(0.8), 0.5f64.powf(-0.15));
@@ -155,6 +157,10 @@ fn line(index: f64) -> String {
     format!("0 9074729 {} {}", index.floor(), index.ceil())
 }
 
+fn bounds(lower: u64, upper: u64) -> String {
+    format!("0 9074729 {} {}", lower, upper)
+}
+
 fn refused(rule: u64) -> String {
     format!("0 refused {}", rule)
 }
@@ -162,7 +168,6 @@ fn refused(rule: u64) -> String {
 // With f_c 1 the vehicle carrier's EEDI, 14.9926111 g, is rounded down and up and has no other enclosure.
 fn wide_bounds() -> Vec<Lines> {
     let of = |edition: u64| {
-        let bounds = |lower: u64, upper: u64| format!("0 9074729 {} {}", lower, upper);
         let wrong = vec![
             ("an EEDI's lower bound one less", bounds(14_992_610, 14_992_612)),
             ("an EEDI's upper bound one more", bounds(14_992_611, 14_992_613)),
@@ -192,12 +197,16 @@ fn without_sources() -> Vec<Lines> {
 }
 
 // A limit of 7,100 kW makes 5,893 of the 6,000. Of two engines together the auxiliaries have 650 kW, so 416,780 g/h.
-fn limiters() -> Vec<Lines> {
-    let limited = s_with(&[(limit(0), 7_100)]);
+fn two_engines() -> (Block, f64) {
     let mut two = s_with(&[(ENGINES, 2), (limit(1), 7_100)]);
     put_both(&mut two, mcr(1), 8_000);
     put_consumption(&mut two, 1, [1_800, 1_800], 3, 1);
-    let both = 1e6 * (11_893.0 * 180.0 * 3.114 + 416_780.0) / 700_000.0;
+    (two, 1e6 * (11_893.0 * 180.0 * 3.114 + 416_780.0) / 700_000.0)
+}
+
+fn limiters() -> Vec<Lines> {
+    let limited = s_with(&[(limit(0), 7_100)]);
+    let (two, both) = two_engines();
     vec![
         (in_edition(limited, 2), refused(19), vec![
             ("an EEDI with a limiter", line(s_at(5_893.0))),
@@ -258,16 +267,148 @@ fn edition_bytes() -> Vec<Lines> {
     ]
 }
 
+// The ship on a trial of 14.00 knots, at so many kilowatts and, at design draught, so many tonnes.
+fn trial_at(mut block: Block, power: u64, tonnes: u64) -> Block {
+    for (field, value) in &[(METHOD, if tonnes > 0 { 3 } else { 2 }), (TRIAL_POWER, power), (TRIAL_DEADWEIGHT, tonnes)] {
+        put(&mut block, *field, *value);
+    }
+    sealed(block)
+}
+
+// At rated power the index is rounded down and up and has no other enclosure: 3,619,600 g/h over 50,000 t x 14.50 knots is 4.9925517 g,
+// over 250,000 t x 14 knots 1.0341714 g. A limit of 7,000 kW makes 5,810 of the 6,000 and 5.018716 g, a whole number of millionths.
+fn rated_bounds() -> Vec<Lines> {
+    let mut quick = trial_at(ship_s(), 6_000, 0);
+    put_both(&mut quick, SPEED, 1_450);
+    let large = s_with(&[(DEADWEIGHT, 250_000), (CARGO_VOLUME, 300_000)]);
+    let ranged = s_with(&[(consumption(0).0[0], 1_750)]);
+    vec![
+        (sealed(quick), bounds(4_992_551, 4_992_552), vec![
+            ("14.499999 to 14.500002 knots at rated power", bounds(4_992_551, 4_992_553)),
+            ("a lower bound one less at rated power", bounds(4_992_550, 4_992_552)),
+            ("a trial at rated power refused", refused(15)),
+        ]),
+        (trial_at(large, 6_000, 250_000), bounds(1_034_171, 1_034_172), vec![
+            ("an upper bound one more at design draught", bounds(1_034_171, 1_034_173)),
+            ("a lower bound one less at design draught", bounds(1_034_170, 1_034_172)),
+        ]),
+        (trial_at(ranged, 6_000, 0), bounds(5_037_400, 5_170_858), vec![
+            ("a ranged trial's upper bound one more", bounds(5_037_400, 5_170_859)),
+            ("a ranged trial's lower bound one less", bounds(5_037_399, 5_170_858)),
+        ]),
+        (trial_at(s_with(&[(limit(0), 7_000)]), 5_810, 0), bounds(5_018_716, 5_018_716), vec![
+            ("a whole index at rated power, upper bound one more", bounds(5_018_716, 5_018_717)),
+            ("a whole index at rated power, lower bound one less", bounds(5_018_715, 5_018_716)),
+        ]),
+    ]
+}
+
+// What the trial's power is compared with: the sum of P_ME to a hundredth of a kW, which of the two engines is 6,000 and 5,893, and of
+// one of 8,001 kW is 6,000.75. Elsewhere V_ref goes with the cube root of the two powers.
+fn rated_powers() -> Vec<Indexes> {
+    let (two, both) = two_engines();
+    let idle = s_with(&[(limit(0), 8_000)]);
+    let odd = s_with(&[(mcr(0)[0], 8_001), (mcr(0)[1], 8_001)]);
+    let odd_index = 1e6 * (6_000.75 * 180.0 * 3.114 + 400.05 * 200.0 * 3.206) / 700_000.0;
+    let at = |index: f64, sum: f64, trial: f64| index / (sum / trial).cbrt();
+    let s = |power: u64, name: &'static str| (trial_at(ship_s(), power, 0), at(S_INDEX, 6_000.0, power as f64), vec![(name, S_INDEX)]);
+    let of_two = |power: u64, name: &'static str| (trial_at(two, power, 0), at(both, 11_893.0, power as f64), vec![(name, both)]);
+    vec![
+        s(6_001, "a trial one kW above P_ME taken for rated"),
+        s(5_999, "a trial one kW below P_ME taken for rated"),
+        s(8_000, "a trial at MCR taken for rated"),
+        (trial_at(odd, 6_000, 0), at(odd_index, 6_000.75, 6_000.0), vec![("P_ME rounded down for the trial", odd_index)]),
+        (trial_at(odd, 6_001, 0), at(odd_index, 6_000.75, 6_001.0), vec![("P_ME rounded up for the trial", odd_index)]),
+        (trial_at(idle, 6_640, 0), at(S_INDEX, 6_000.0, 6_640.0), vec![("a trial at 83 % of an idle limit taken for rated", S_INDEX)]),
+        (trial_at(two, 11_893, 0), both, vec![
+            ("the trial beside the first engine's P_ME", at(both, 6_000.0, 11_893.0)),
+            ("the trial beside P_ME without the limiter", at(both, 12_000.0, 11_893.0)),
+        ]),
+        of_two(6_000, "a trial at the first engine's P_ME taken for rated"),
+        of_two(5_893, "a trial at the last engine's P_ME taken for rated"),
+        of_two(12_000, "a trial at P_ME without the limiter taken for rated"),
+    ]
+}
+
+// S with that type and deadweight, and her index with that k where the trial's deadweight is so much of Capacity.
+fn s_sized(kind: u64, deadweight: u64) -> Block {
+    s_with(&[(TYPE, kind), (DEADWEIGHT, deadweight), (CARGO_VOLUME, if kind == 1 { deadweight + deadweight / 5 } else { 0 })])
+}
+
+fn s_drawn(capacity: f64, k: f64, part: f64) -> f64 {
+    1e6 * 3_619_600.0 / (capacity * 14.0 * k.cbrt() * part.powf(2.0 / 9.0))
+}
+
+// At design draught besides k has to be 1, which it becomes above 200,000 t of a bulk carrier and 100,000 t of a tanker.
+fn rated_scales() -> Vec<Indexes> {
+    let of = |kind: u64, deadweight: u64, right: f64, wrong: f64, name: &'static str| {
+        let index = |k: f64| s_drawn(deadweight as f64, k, 1.0);
+        (trial_at(s_sized(kind, deadweight), 6_000, deadweight), index(right), vec![(name, index(wrong))])
+    };
+    vec![
+        of(1, 50_000, 0.97, 1.0, "method 3 taken as exact without k"),
+        of(1, 200_000, 0.97, 1.0, "k of 1 for a bulk carrier of 200,000 t"),
+        of(1, 200_001, 1.0, 0.97, "k of 0.97 for a bulk carrier of 200,001 t"),
+        of(1, 150_000, 0.97, 1.0, "a tanker's k for a bulk carrier"),
+        of(3, 100_000, 0.97, 1.0, "k of 1 for a tanker of 100,000 t"),
+        of(3, 100_001, 1.0, 0.97, "k of 0.97 for a tanker of 100,001 t"),
+        of(3, 150_000, 1.0, 0.97, "a bulk carrier's k for a tanker"),
+    ]
+}
+
+// And the trial's deadweight has to be Capacity: of a container ship 70 % of her deadweight, of others all of it and f_i left out.
+fn rated_draughts() -> Vec<Indexes> {
+    let large = s_sized(1, 250_000);
+    let part = |tonnes: u64| s_drawn(250_000.0, 1.0, tonnes as f64 / 250_000.0);
+    let at = |tonnes: u64, name: &'static str| (trial_at(large, 6_000, tonnes), part(tonnes), vec![(name, part(250_000))]);
+    let mut structural = large;
+    put(&mut structural, LAYOUT, 2);
+    put(&mut structural, LIGHTWEIGHT, 25_000);
+    let with_f_i = |part: f64| s_drawn(252_000.0, 1.0, part);
+    let boxes = |tonnes: u64| trial_at(s_sized(4, 60_000), 6_000, tonnes);
+    let carried = |k: f64, tonnes: f64| s_drawn(42_000.0, k, tonnes / 42_000.0);
+    vec![
+        at(249_999, "a tonne less than Capacity taken for it"),
+        at(250_001, "a tonne more than Capacity taken for it"),
+        at(240_000, "method 3 taken as exact at another deadweight"),
+        (trial_at(large, 6_001, 250_000), part(250_000) * (6_001.0f64 / 6_000.0).cbrt(), vec![("one kW off at Capacity", part(250_000))]),
+        (trial_at(structural, 6_000, 250_000), with_f_i(1.0), vec![("the trial beside Capacity with f_i", with_f_i(250.0 / 252.0))]),
+        (trial_at(structural, 6_000, 252_000), with_f_i(252.0 / 250.0), vec![("Capacity with f_i taken for Capacity", with_f_i(1.0))]),
+        (boxes(42_000), carried(0.95, 42_000.0), vec![("a container ship's k left out", carried(1.0, 42_000.0))]),
+        (boxes(60_000), carried(0.95, 60_000.0), vec![("a container ship's deadweight for Capacity", carried(0.95, 42_000.0))]),
+    ]
+}
+
+// A trial at rated power keeps f_c and f_j, which are powers of other numbers than 1.
+fn rated_factors() -> Vec<Indexes> {
+    let mut coasting = coaster(1_400);
+    put(&mut coasting, METHOD, 2);
+    put(&mut coasting, TRIAL_POWER, 3_000);
+    let (light_factor, vehicle_factor) = (0.5f64.powf(-0.15), 1.05f64.powf(0.8));
+    let vehicle = 1e6 * 5_397_340.0 / 360_000.0;
+    let knots = right(14.0, 0.0);
+    vec![
+        (trial_at(s_with(&[(CARGO_VOLUME, 100_000)]), 6_000, 0), S_INDEX / light_factor, vec![
+            ("no light-cargo f_c at rated power", S_INDEX),
+            ("light-cargo f_c upside down at rated power", S_INDEX * light_factor),
+        ]),
+        (trial_at(vehicle_carrier(0), 9_000, 0), vehicle / vehicle_factor, vec![("no vehicle carriers' f_c at rated power", vehicle)]),
+        (sealed(coasting), knots.index(), vec![("no f_j at rated power", Reading { froude_cap: 0.1, ..knots }.index())]),
+    ]
+}
+
 // How many wrong readings there are, and the names of those that were not caught.
 pub fn uncaught() -> (usize, Vec<&'static str>) {
     let mut indexes = coasters();
     indexes.push(bulk_carrier());
-    indexes.extend(new_ships());
-    let lines = |(block, index, wrong): (Block, f64, Vec<(&'static str, f64)>)| -> Lines {
+    for more in vec![new_ships(), rated_powers(), rated_scales(), rated_draughts(), rated_factors()] {
+        indexes.extend(more);
+    }
+    let lines = |(block, index, wrong): Indexes| -> Lines {
         (block, line(index), wrong.into_iter().map(|(name, index)| (name, line(index))).collect())
     };
     let mut ships: Vec<Lines> = indexes.into_iter().map(lines).collect();
-    for more in vec![wide_bounds(), without_sources(), limiters(), speeds(), edition_bytes()] {
+    for more in vec![wide_bounds(), without_sources(), limiters(), speeds(), edition_bytes(), rated_bounds()] {
         ships.extend(more);
     }
     let mut missed = Vec::new();
