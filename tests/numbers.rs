@@ -1,5 +1,6 @@
 // Cases for the number crates, with expectations worked out here: whole roots, roots of ratios and quotients exactly,
-// with integers of 128 bits and of as many as it takes; powers in doubles, whose error is far below the promised gap.
+// with integers of 128 bits and of as many as it takes; powers in doubles, whose error is far below the promised gap, and
+// powers of 1 exactly.
 // Each kind of expectation is then falsified, and every case of it must be found wrong.
 // Usage: numbers RUNNER PROGRAM
 use std::cmp::Ordering;
@@ -73,49 +74,84 @@ fn whole_root(n: u64, exponent: u32) -> u64 {
     low
 }
 
+// Units of a power.
+const UNIT: u64 = 1 << 30;
+
+// What can be asked. Of a ratio of 1, and of the next one above it, more is expected: these are kinds of their own.
+const KINDS: [&str; 8] = [
+    "square roots", "cube roots", "cube roots of ratios", "quotients", "powers", "cube roots of n/n", "powers of a/a", "powers of a/(a - 1)",
+];
+
+// The place in KINDS; None for what can't be asked.
+fn kind(case: &[u64; 5]) -> Option<usize> {
+    match *case {
+        [3, n, d, ..] if n == d => Some(5),
+        [5, a, b, ..] if a == b => Some(6),
+        // To the power 0 that is 1 again.
+        [5, a, b, c, _] if a.wrapping_sub(b) == 1 && c > 0 => Some(7),
+        [asked, ..] if (1..=5).contains(&asked) => Some(asked as usize - 1),
+        _ => None,
+    }
+}
+
 fn fail(case: &[u64; 5], line: &str, why: &str) -> String {
     format!("case {:?} answered '{}': {}", case, line, why)
 }
 
-// Whether a line answers its case; `slip` falsifies the expectation.
-fn verdict(case: &[u64; 5], line: &str, slip: bool) -> Result<(), String> {
+fn is_inside(case: &[u64; 5]) -> bool {
     let [asked, a, b, c, d] = *case;
-    let numbers: Vec<u64> = line.split(' ').filter_map(|w| w.parse().ok()).collect();
-    let shift = slip as u64;
-    let inside = match asked {
+    match asked {
         1 | 2 => true,
         3 => b > 0 && a < 1 << 40 && b as u128 <= 8 * a as u128,
         4 => b > 0 && b <= 1_000_000_000_000_000_000 && a < 1 << 43,
         5 => b > 0 && b <= a && a < 1 << 32 && a as u128 <= (b as u128) << 20 && c < d && d < 1 << 24,
         _ => false,
-    };
-    if !inside {
+    }
+}
+
+// The root of a/b in units of 1/s, rounded down and up.
+fn is_ratio_root(a: u64, b: u64, s: u64, low: u64, high: u64, shift: u64) -> bool {
+    let scaled = Big::of(a as u128).times(&Big::cubed(s));
+    let over = |t: u64| Big::cubed(t).times(&Big::of(b as u128)).against(&scaled);
+    s.is_power_of_two()
+        && (1 << 20..=1 << 21).contains(&low)
+        && over(low + shift) != Ordering::Greater
+        && over(low + 1) == Ordering::Greater
+        && over(high) != Ordering::Less
+        && over(high - 1) == Ordering::Less
+}
+
+// Ends about (a/b)^(c/d), no farther apart than they may be.
+fn is_about_power(case: &[u64; 5], low: u64, high: u64, slip: bool) -> bool {
+    let [_, a, b, c, d] = *case;
+    let value = (a as f64 / b as f64).powf(c as f64 / d as f64) * UNIT as f64;
+    let slack = value * 1e-13;
+    low as f64 <= value + slack - slip as u64 as f64 * value
+        && value - slack <= high as f64
+        && high as u128 * (1 << 27) <= low as u128 * ((1 << 27) + 1)
+}
+
+// Whether a line answers its case; `slip` falsifies the expectation.
+fn verdict(case: &[u64; 5], line: &str, slip: bool) -> Result<(), String> {
+    let [_, a, b, _, _] = *case;
+    let numbers: Vec<u64> = line.split(' ').filter_map(|w| w.parse().ok()).collect();
+    let shift = slip as u64;
+    if !is_inside(case) {
         return if line == "-" { Ok(()) } else { Err(fail(case, line, "the numbers are outside the domain")) };
     }
-    let right = match (asked, &numbers[..]) {
-        (1, [r]) => *r == whole_root(a, 2) + shift,
-        (2, [r]) => *r == whole_root(a, 3) + shift,
-        (3, [s, low, high]) => {
-            let scaled = Big::of(a as u128).times(&Big::cubed(*s));
-            let over = |t: u64| Big::cubed(t).times(&Big::of(b as u128)).against(&scaled);
-            s.is_power_of_two()
-                && (1 << 20..=1 << 21).contains(low)
-                && over(*low + shift) != Ordering::Greater
-                && over(low + 1) == Ordering::Greater
-                && over(*high) != Ordering::Less
-                && over(high - 1) == Ordering::Less
-        }
-        (4, [low, high]) => {
+    let right = match (kind(case), &numbers[..]) {
+        (Some(0), [r]) => *r == whole_root(a, 2) + shift,
+        (Some(1), [r]) => *r == whole_root(a, 3) + shift,
+        (Some(2), [s, low, high]) => is_ratio_root(a, b, *s, *low, *high, shift),
+        (Some(3), [low, high]) => {
             let n = a as u128 * 1_000_000;
             *low as u128 == n / b as u128 + shift as u128 && *high as u128 == (n + b as u128 - 1) / b as u128
         }
-        (5, [low, high]) => {
-            let value = (a as f64 / b as f64).powf(c as f64 / d as f64) * (1u64 << 30) as f64;
-            let slack = value * 1e-13;
-            *low as f64 <= value + slack - shift as f64 * value
-                && value - slack <= *high as f64
-                && *high as u128 * (1 << 27) <= *low as u128 * ((1 << 27) + 1)
-        }
+        (Some(4), [low, high]) => is_about_power(case, *low, *high, slip),
+        (Some(5), [s, low, high]) => is_ratio_root(a, b, *s, *low, *high, 0) && [*low + shift, *high] == [*s, *s],
+        (Some(6), [low, high]) => [*low + shift, *high] == [UNIT, UNIT],
+        // However near to 1, it is above.
+        (Some(7), [low, high]) => is_about_power(case, *low, *high, false) && (*high > UNIT) != slip,
         _ => false,
     };
     if right { Ok(()) } else { Err(fail(case, line, "wrong")) }
@@ -152,7 +188,54 @@ fn cases() -> Vec<[u64; 5]> {
         all.push([5, 100, k, 1, 3]);
     }
     all.push([6, 1, 1, 1, 1]);
+    next_to_one(&mut random, &mut all);
     all
+}
+
+// Powers of two and the numbers beside them, up to the last one asked about; it and the next are the last two.
+fn about_powers_of_two(bits: u32) -> Vec<u64> {
+    let mut all: Vec<u64> = (1..bits).flat_map(|bit| vec![(1 << bit) - 1, 1 << bit, (1 << bit) + 1]).collect();
+    all.extend(&[(1 << bits) - 2, (1 << bits) - 1, 1 << bits]);
+    all
+}
+
+// Exponents p/q of every size, 0 and the greatest below 1 among them; 1 is none, and 2^24 no denominator.
+fn exponents(random: &mut Random) -> Vec<(u64, u64)> {
+    let last = (1 << 24) - 1;
+    let mut all = vec![(0, 1), (0, last), (1, last), (last - 1, last), (last - 2, last), (1, 2), (1, 3), (2, 9), (3, 20), (4, 5), (last, last), (0, last + 1)];
+    for _ in 0..4 {
+        let q = 1 + random.any_size() % last;
+        all.extend(&[(random.up_to(q - 1), q), (q - 1, q), (0, q), (1.min(q - 1), q)]);
+    }
+    all
+}
+
+// A ratio of 1 in every writing, and the ratios next to it.
+fn next_to_one(random: &mut Random, all: &mut Vec<[u64; 5]>) {
+    let mut bases = about_powers_of_two(32);
+    bases.extend((0..400).map(|_| 1 + random.any_size() % 0xffff_ffff));
+    for a in bases {
+        for (p, q) in exponents(random) {
+            all.push([5, a, a, p, q]);
+            all.push([5, a, a - 1, p, q]);
+        }
+    }
+    let mut numbers = about_powers_of_two(40);
+    numbers.extend((0..4000).map(|_| 1 + random.any_size() % ((1 << 40) - 1)));
+    for n in numbers {
+        all.extend(&[[3, n, n, 0, 0], [3, n, n - 1, 0, 0], [3, n - 1, n, 0, 0]]);
+    }
+}
+
+// How many of each kind lie in the domain, and of how many kinds a falsified expectation goes through.
+fn by_kind(all: &[[u64; 5]], lines: &[&str]) -> ([u64; 8], usize) {
+    let (mut counts, mut uncaught) = ([0; 8], [false; 8]);
+    for (case, line) in all.iter().zip(lines).filter(|(case, _)| is_inside(case)) {
+        let place = kind(case).expect("what is inside can be asked");
+        counts[place] += 1;
+        uncaught[place] |= verdict(case, line, true).is_ok();
+    }
+    (counts, uncaught.iter().filter(|kind| **kind).count())
 }
 
 fn main() {
@@ -179,7 +262,12 @@ fn main() {
             }
         }
     }
-    let uncaught = (1..=5).filter(|k| all.iter().zip(&lines).any(|(c, l)| c[0] == *k && l != &"-" && verdict(c, l, true).is_ok())).count();
+    let (counts, uncaught) = by_kind(&all, &lines);
+    println!("numbers: {}", counts.iter().zip(&KINDS).map(|(count, what)| format!("{} {}", count, what)).collect::<Vec<_>>().join(", "));
     println!("numbers: {} cases, {} wrong, {} kinds of falsified expectation uncaught", all.len(), wrong, uncaught);
-    std::process::exit((wrong > 0 || uncaught > 0) as i32);
+    let few = counts.iter().any(|count| *count < 2000);
+    if few {
+        eprintln!("numbers: a kind hardly occurs");
+    }
+    std::process::exit((wrong > 0 || uncaught > 0 || few) as i32);
 }
