@@ -1,6 +1,6 @@
 #!/usr/bin/env python3
 """Cases for the programs `files` and `fleet`, from the rules alone (docs/RULES.md): the tables of both layouts, the table of refusals,
-the writer, and what `fleet` prints for ship S in each ice class and edition and with a lightweight.
+the writer, and what `fleet` prints for ship S in each ice class and edition, with a lightweight and on trial at rated power.
 
     tests/blocks.py            writes stdin and stdout of the programs
     tests/blocks.py --check    says whether the stored ones are these
@@ -60,6 +60,16 @@ def block(ship, **changed):
     return seal(data)
 
 
+def fields(piece):
+    return {name: int.from_bytes(piece[at:at + width], "little") for name, (at, width) in PLACES.items()}
+
+
+def p_me(f, k, end="low"):
+    """P_ME of an engine in kW, with the low end of its MCR or the high one."""
+    rated, limit = Fraction(75 * f[f"mcr_{end}{k}"], 100), f[f"limit{k}"]
+    return min(Fraction(83 * limit, 100), rated) if limit else rated
+
+
 # ── A second reading of the table of refusals ────────────────────────────────────────────────────
 
 
@@ -95,7 +105,7 @@ def refusal(piece):
         return 1
     if seal(piece) != piece:
         return 2
-    f = {name: int.from_bytes(piece[at:at + width], "little") for name, (at, width) in PLACES.items()}
+    f = fields(piece)
     if f["layout"] not in (1, 2):
         return 3
     digits = f"{f['imo']:07d}"
@@ -146,8 +156,7 @@ def refusal(piece):
     if method in (1, 4) and (power or tonnes):
         return 15
     if method in (2, 3):
-        total = sum(Fraction(75 * low, 100) if not f[f"limit{k}"] else min(Fraction(83 * f[f"limit{k}"], 100), Fraction(75 * low, 100))
-                    for k, (low, _) in zip(used, mcrs))
+        total = sum(p_me(f, k) for k in used)
         if not 1 <= power <= 600000 or power > 5 * total or total > 5 * power:
             return 15
     if method == 2 and tonnes:
@@ -552,20 +561,44 @@ write(512, 1, block(NEW, limit0=8000), EMPTY)
 
 # ── Lines of `fleet` ─────────────────────────────────────────────────────────────────────────────
 
-GRAMS = 6000 * 180 * Fraction("3.114") + 400 * 200 * Fraction("3.206")  # of S, an hour; she has 14 knots
+C_F = {number: Fraction(factor) for number, factor in enumerate("3.206 3.151 3.114 3.000 3.030 2.750 1.375 1.913".split(), 1)}
 F_M = {0: 1, 1: Fraction("1.05"), 2: 1}  # none, IA Super or IA, IB or IC
 lines = []
 
 
+def grams(f, end):
+    """What a ship emits an hour with every low end, or with every high one; her auxiliary power is by rule, and every SFC given."""
+    engines = range(f["engines"])
+    mcr = sum(f[f"mcr_{end}{k}"] for k in engines)
+    aux = Fraction(5 * mcr, 100) if mcr < 10000 else Fraction(25 * mcr, 1000) + 250
+    main = sum(p_me(f, k, end) * Fraction(f[f"sfc_{end}{k}"], 10) * C_F[f[f"fuel{k}"]] for k in engines)
+    return main + aux * Fraction(f[f"aux_{end}"], 10) * C_F[f["aux_fuel"]]
+
+
+def only_fractions(f):
+    """Whether f_c is 1 and V_ref a recorded speed: declared, or of a trial at the sum of P_ME, at design draught with k 1 and at Capacity."""
+    rated = f["trial_power"] == sum(p_me(f, k) for k in range(f["engines"]))
+    k_is_1 = f["deadweight"] > {1: 200000, 3: 100000}.get(f["type"], 600000)
+    of_trial = {1: True, 2: rated, 3: rated and k_is_1 and f["trial_deadweight"] == f["deadweight"], 4: False}
+    light = f["type"] == 1 and 100 * f["deadweight"] < 55 * f["volume"] or f["type"] == 7 and 100 * f["deadweight"] < 35 * f["gross"] and not f["edition"]
+    return f["type"] < 8 and of_trial[f["method"]] and not light
+
+
+def millionths(f, end, speed):
+    """The index with every low end or every high one, and with that speed."""
+    capacity = f["deadweight"] * (Fraction(7, 10) if f["type"] == 4 else 1) + Fraction("0.08") * f["lightweight"]
+    f_m = 1 if f["edition"] == 1 else F_M[f["ice"]]
+    return grams(f, end) / capacity / Fraction(f[speed], 100) / f_m * 10 ** 6
+
+
 def line(piece, wanted):
-    """A refused piece, or ship S in one of the ice classes and editions, with a lightweight or as a new vehicle carrier: her index in
-    millionths, rounded down and up. Type 8 and an f_c other than 1 aren't here: their last digits are free."""
+    """A refused piece, or a ship for which only fractions enter: the index of the most favourable rounded down, of the least favourable
+    rounded up. The last digits of others are free."""
     answer = f"refused {refusal(piece)}"
     if refusal(piece) == 0:
-        deadweight, lightweight = (int.from_bytes(piece[at:at + 4], "little") for at in (8, 132))
-        f_m = 1 if piece[141] == 1 else F_M[piece[37]]
-        millionths = GRAMS / (deadweight + Fraction("0.08") * lightweight) / 14 / f_m * 10 ** 6
-        answer = f"9074729 {millionths // 1} {-(-millionths // 1)}"
+        f = fields(piece)
+        assert only_fractions(f), (len(lines), f)
+        answer = f"{f['imo']} {millionths(f, 'low', 'speed_high') // 1} {-(-millionths(f, 'high', 'speed_low') // 1)}"
     assert answer == wanted, (len(lines), wanted, answer)
     lines.append((piece, f"{len(lines)} {wanted}\n"))
 
@@ -598,6 +631,20 @@ for piece, wanted in ((block(S2, edition=3), 19), (block(S2, edition=255), 19), 
                       (block(S2, edition=2, **no_aux), 19), (block(TRIAL, layout=2, edition=1), 19), (block(STATISTICAL, layout=2, edition=2), 19),
                       (block(S2, edition=3, lightweight=99), 18), (block(S2, edition=1, bytes={142: 1}), 16), (block(S, edition=1), 16)):
     line(piece, f"refused {wanted}")
+# A trial of 14.50 knots at rated power: 3,619,600 g/h over 50,000 t x 14.5 knots; with SFC 175.0-180.0; with two engines, 5,851.5 kW by
+# a limit and 1,501.5 kW, together 4,442,135.62 g/h; by a limit 5,810 kW at 14.00 knots, a whole number of millionths; of a container ship
+RATED = {**TRIAL, "speed_low": 1450, "speed_high": 1450}
+TWO = {**RATED, "engines": 2, "limit0": 7050, **engine(1, 2002), "trial_power": 7353}
+for piece, wanted in ((block(RATED), "4992551 4992552"), (block(RATED, sfc_low0=1750), "4863696 4992552"), (block(TWO), "6127083 6127084"),
+                      (block(TRIAL, limit0=7000, trial_power=5810), "5018716 5018716"), (block(RATED, type=4, volume=0), "7132216 7132217")):
+    line(piece, f"9074729 {wanted}")
+# At design draught and Capacity, where k is 1: over 250,000 t, with f_i over 252,000 t, in class IA; the smallest ships with that k
+LARGE = {**RATED, "method": 3, "deadweight": 250000, "trial_deadweight": 250000, "volume": 300000}
+for piece, wanted in ((block(LARGE), "998510 998511"), (block(LARGE, layout=2, lightweight=25000), "990585 990586"),
+                      (block(LARGE, layout=2, lightweight=25000, ice=1), "943414 943415"),
+                      (block(LARGE, deadweight=200001, trial_deadweight=200001), "1248131 1248132"),
+                      (block(LARGE, type=3, volume=0, deadweight=100001, trial_deadweight=100001), "2496250 2496251")):
+    line(piece, f"9074729 {wanted}")
 
 # ── Stored ───────────────────────────────────────────────────────────────────────────────────────
 
