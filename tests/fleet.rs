@@ -362,18 +362,20 @@ fn blocks(random: &mut Random) -> Vec<Block> {
         }
         all.push(block);
     }
-    for (block, exact) in at_rated_power(random) {
-        match desk::answer(&block) {
-            Answer::Exact { .. } if exact => {}
-            Answer::Near { .. } if !exact => {}
-            answer => fail(&format!("the reference gives {:?} to a trial at rated power that is exact: {}", answer, exact)),
-        }
-        all.push(block);
-    }
+    all.extend(rated_and_beside(random));
     for at in 1..all.len() {
         all.swap(at, random.from(0, at as u64) as usize);
     }
     all
+}
+
+// Trials at rated power and beside it. How each is made tells whether she is exact, and the reference has to find the same.
+fn rated_and_beside(random: &mut Random) -> Vec<Block> {
+    let held = |(block, exact): Trial| match (desk::answer(&block), exact) {
+        (Answer::Exact { .. }, true) | (Answer::Near { .. }, false) => block,
+        (answer, _) => fail(&format!("the reference gives {:?} to a trial that {} exact", answer, if exact { "is" } else { "isn't" })),
+    };
+    at_rated_power(random).into_iter().map(held).collect()
 }
 
 #[derive(Default)]
@@ -492,16 +494,17 @@ struct Trials {
     limited: [u64; 2],
     structural: u64,
     ranged: u64,
-    whole: u64,
+    whole: [u64; 2],
     // Those that are not, by what keeps them from it, in the order of BESIDE.
-    beside: [u64; 7],
+    beside: [u64; 8],
 }
 
 // What keeps a trial at or near rated power from being exact, and how many of each there have to be.
-const BESIDE: [(&str, u64); 7] = [
+const BESIDE: [(&str, u64); 8] = [
     ("one kW off", 6_000),
     ("less than a kW off", 1_000),
     ("one tonne off Capacity", 3_000),
+    ("at Capacity with f_i", 500),
     ("k below 1, bulk carriers and tankers", 500),
     ("k below 1, container ships", 500),
     ("f_c other than 1", 900),
@@ -511,17 +514,18 @@ const BESIDE: [(&str, u64); 7] = [
 // Its place in BESIDE; everything else about the ship would let her be exact.
 fn beside(ship: &desk::Ship) -> Option<usize> {
     let off = (100 * ship.trial_power as i64 - ship.main_power(0) as i64).abs();
-    let tonnes = if ship.method == 3 { (10 * ship.trial_deadweight as i64 - ship.capacity() as i64).abs() } else { 0 };
+    let tonnes = if ship.method == 3 { 10 * ship.trial_deadweight as i64 - ship.capacity() as i64 } else { 0 };
     let scaled = ship.method == 3 && ship.scale() < 100;
     match (off, tonnes) {
-        (0, 0) if scaled => Some(if ship.kind == 4 { 4 } else { 3 }),
+        (0, 0) if scaled => Some(if ship.kind == 4 { 5 } else { 4 }),
         _ if scaled => None,
-        (0, 0) if ship.has_cargo_factor() => Some(5),
-        (0, 0) if ship.kind == 8 => Some(6),
+        (0, 0) if ship.has_cargo_factor() => Some(6),
+        (0, 0) if ship.kind == 8 => Some(7),
         _ if ship.has_cargo_factor() || ship.kind == 8 => None,
         (100, 0) => Some(0),
         (1..=99, 0) => Some(1),
-        (0, 10) => Some(2),
+        (0, -10) | (0, 10) => Some(2),
+        (0, more) if more > 0 && 5 * more == 4 * ship.lightweight as i64 => Some(3),
         _ => None,
     }
 }
@@ -538,7 +542,7 @@ impl Trials {
             return;
         }
         if let Some(whole) = exact {
-            self.whole += whole as u64;
+            self.whole[ship.method as usize - 2] += whole as u64;
             return self.add_exact(ship);
         }
         self.beside[place.unwrap()] += 1;
@@ -561,7 +565,8 @@ impl Trials {
             (of("different".to_string()), self.exact.iter().flatten().sum(), 5_000),
             (of("f_i".to_string()), self.structural, 500),
             (of("ranged".to_string()), self.ranged, 1_500),
-            (of("whole".to_string()), self.whole, 300),
+            (of("whole by method 2".to_string()), self.whole[0], 300),
+            (of("whole by method 3".to_string()), self.whole[1], 200),
         ];
         wants.extend((1..8).map(|kind| (of(format!("method 2 type {}", kind)), self.exact[0][kind], 500)));
         wants.extend([1, 3].iter().map(|kind| (of(format!("method 3 type {}", kind)), self.exact[1][*kind], 800)));
@@ -573,12 +578,13 @@ impl Trials {
     }
     fn print(&self) {
         let Trials { exact, engines, ice, limited, structural, ranged, whole, .. } = self;
-        let all: u64 = exact.iter().flatten().sum();
-        println!("fleet: at rated power {} different, all exact: by method 2 of types 1-7 {:?}, by method 3 {:?}", all, &exact[0][1..], &exact[1][1..]);
+        let (all, large): (u64, _) = (exact.iter().flatten().sum(), [exact[1][1], exact[1][3]]);
+        print!("fleet: at rated power {} different, all exact: by method 2 of types 1-7 {:?}, ", all, &exact[0][1..]);
+        println!("by method 3 bulk carriers and tankers {:?}", large);
         print!("fleet: of these with 1-4 engines {:?}, with limiters that bind and that don't {:?}, ", &engines[1..], limited);
-        println!("ice classes {:?}, with f_i {}, ranges {}, whole {}", ice, structural, ranged, whole);
+        println!("ice classes {:?}, with f_i {}, ranges {}, whole by methods 2 and 3 {:?}", ice, structural, ranged, whole);
         let beside: Vec<String> = BESIDE.iter().zip(&self.beside).map(|((what, _), count)| format!("{} {}", what, count)).collect();
-        println!("fleet: beside them, not exact: {}", beside.join(", "));
+        println!("fleet: beside them, not exact: {}", beside.join("; "));
     }
 }
 

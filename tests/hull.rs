@@ -17,12 +17,15 @@ mod hulls;
 #[allow(dead_code)]
 #[path = "program.rs"]
 mod program;
+#[path = "rated.rs"]
+mod rated;
 #[path = "ships.rs"]
 mod ships;
 
 use edges::*;
 use editions::*;
 use hulls::*;
+use rated::*;
 use ships::*;
 use std::fs::{read, read_dir, write};
 use std::process::exit;
@@ -221,6 +224,7 @@ fn generated(random: &mut Random) -> Vec<Block> {
         all.extend(breaks::broken(random, *each, *layout, &NO_LAYOUT).into_iter().map(|(block, _)| block));
     }
     all.extend(at_rule_19(random).into_iter().map(|(block, _)| block));
+    all.extend(at_rated_power(random).into_iter().step_by(8).map(|(block, _)| block));
     for at in 1..all.len() {
         all.swap(at, random.from(0, at as u64) as usize);
     }

@@ -113,6 +113,19 @@ fn at_scales(random: &mut Random, out: &mut Vec<Trial>) {
     }
 }
 
+// Under the common structural rules Capacity stays the deadweight: a trial with 8 % of the lightweight on top is at another one.
+fn with_lightweights(random: &mut Random, out: &mut Vec<Trial>) {
+    for each in 0..600 {
+        let mut ship = draw_whole(random, if each % 2 == 0 { 1 } else { 3 }, 3, each % 3 == 0);
+        draw_size(&mut ship, random, false);
+        let (power, tonnes, twenty_fifth) = (main_power(&ship) / 100, capacity(&ship) / 10, random.any_size(4, 8_000));
+        put(&mut ship, LAYOUT, 2);
+        put(&mut ship, LIGHTWEIGHT, 25 * twenty_fifth);
+        out.push((on_trial(&ship, power, tonnes), true));
+        out.push((on_trial(&ship, power, tonnes + 2 * twenty_fifth), false));
+    }
+}
+
 // Light cargo has a power in f_c, and a general cargo ship one in f_j.
 fn with_factors(random: &mut Random, out: &mut Vec<Trial>) {
     for (kind, method) in KINDS.iter().filter(|(kind, _)| *kind == 1 || *kind == 7) {
@@ -153,11 +166,10 @@ fn at_other_powers(random: &mut Random, out: &mut Vec<Trial>) {
     }
 }
 
-// The largest and the smallest figures, and indexes that are a whole number of millionths, all by a trial at rated power.
+// The largest and the smallest figures. Some hulls among the smallest don't hold their volume.
 fn at_ends(random: &mut Random, out: &mut Vec<Trial>) {
     let mut ships = Vec::new();
     at_extremes(random, &mut ships);
-    // Some hulls among the smallest don't hold their volume.
     let holds = |ship: &Block| get(ship, TYPE) != 8 || box_volume(ship) >= 1_000_000 * get(ship, DISPLACEMENT);
     for ship in ships.iter().filter(|ship| [2, 3].contains(&get(ship, METHOD)) && holds(ship)) {
         let (kind, deadweight) = (get(ship, TYPE), get(ship, DEADWEIGHT));
@@ -165,12 +177,26 @@ fn at_ends(random: &mut Random, out: &mut Vec<Trial>) {
         let scaled = get(ship, METHOD) == 3 && (kind == 4 || deadweight == 100);
         out.push((at_rated(ship), kind != 8 && !light && !scaled));
     }
-    ships.clear();
+}
+
+// Ships whose index is a whole number of millionths, so that floor and ceiling are the same. Larger ones are tried at design draught;
+// those with a lightweight have one of which 8 % are 1,000 t.
+fn at_whole(random: &mut Random, out: &mut Vec<Trial>) {
+    let mut ships = Vec::new();
     at_whole_index(random, &mut ships);
     for ship in ships.iter().filter(|ship| get(ship, mcr(0)[0]) == get(ship, mcr(0)[1])) {
         let mut block = *ship;
         put(&mut block, METHOD, 2);
         out.push((at_rated(&block), true));
+        let kind = get(ship, TYPE);
+        if kind == 1 || kind == 3 {
+            let less = if get(ship, LIGHTWEIGHT) > 0 { 1_000 } else { 0 };
+            let deadweight = random.pick(&[220_000, 350_000, 385_000, 550_000]) - less;
+            for (field, value) in &[(METHOD, 3), (DEADWEIGHT, deadweight), (CARGO_VOLUME, if kind == 1 { 20 * deadweight / 11 } else { 0 })] {
+                put(&mut block, *field, *value);
+            }
+            out.push((at_rated(&block), true));
+        }
     }
 }
 
@@ -178,8 +204,10 @@ pub fn at_rated_power(random: &mut Random) -> Vec<Trial> {
     let mut all = Vec::new();
     with_neighbours(random, &mut all);
     at_scales(random, &mut all);
+    with_lightweights(random, &mut all);
     with_factors(random, &mut all);
     at_other_powers(random, &mut all);
     at_ends(random, &mut all);
+    at_whole(random, &mut all);
     all
 }
