@@ -222,7 +222,7 @@ fn vehicle_carriers() -> Vec<(Block, &'static str)> {
 }
 
 // S on a trial of 14.50 knots at 6,000 kW, which is her P_ME: 3,619,600 g/h over 50,000 t x 14.5 knots is 4.992551724 g. With 175.0 to
-// 180.0 g/kWh her most favourable ship has 3,526,180 g/h and 4.863696 g. With limits of 7,050 kW (5,851.5) and a second engine of
+// 180.0 g/kWh her most favourable ship has 3,526,180 g/h and 4.863696 g. With a limit of 7,050 kW (5,851.5) and a second engine of
 // 2,002 kW (1,501.5) the sum is 7,353 kW; the auxiliaries have 500.05 kW, all together 4,442,135.62 g/h and 6.127083 g.
 // At design draught and Capacity, k being 1: over 250,000 t 0.998510 g, with a lightweight of 25,000 t over 252,000 t 0.990585 g and in
 // class IA 0.943414 g; as a tanker over 100,001 t 2.496250 g.
@@ -497,19 +497,24 @@ struct Trials {
     whole: [u64; 2],
     // Those that are not, by what keeps them from it, in the order of BESIDE.
     beside: [u64; 8],
+    // At design draught with the deadweights of TURNING, the first of each type not exact.
+    turning: [u64; 4],
 }
 
 // What keeps a trial at or near rated power from being exact, and how many of each there have to be.
 const BESIDE: [(&str, u64); 8] = [
-    ("one kW off", 6_000),
-    ("less than a kW off", 1_000),
+    ("one kW off", 10_000),
+    ("less than a kW off", 2_000),
     ("one tonne off Capacity", 3_000),
     ("at Capacity with f_i", 500),
-    ("k below 1, bulk carriers and tankers", 500),
+    ("k below 1, bulk carriers and tankers", 900),
     ("k below 1, container ships", 500),
     ("f_c other than 1", 900),
     ("general cargo", 600),
 ];
+
+// The last deadweight of a bulk carrier and of a tanker with a k below 1, and the first with k 1.
+const TURNING: [(u8, u32); 4] = [(1, 200_000), (1, 200_001), (3, 100_000), (3, 100_001)];
 
 // Its place in BESIDE; everything else about the ship would let her be exact.
 fn beside(ship: &desk::Ship) -> Option<usize> {
@@ -540,6 +545,9 @@ impl Trials {
         let place = beside(ship);
         if exact.is_none() && place.is_none() || !self.seen.insert([&block[..4], &block[8..508]].concat()) {
             return;
+        }
+        if let Some(at) = TURNING.iter().position(|turn| ship.method == 3 && *turn == (ship.kind, ship.deadweight)) {
+            self.turning[at] += 1;
         }
         if let Some(whole) = exact {
             self.whole[ship.method as usize - 2] += whole as u64;
@@ -574,6 +582,7 @@ impl Trials {
         wants.extend((0..3).map(|class| (of(format!("ice class {}", class)), self.ice[class], 1_000)));
         wants.extend((0..2).map(|way| (of(format!("limiters {}", ["that bind", "that don't"][way])), self.limited[way], 500)));
         wants.extend((0..BESIDE.len()).map(|place| (of(BESIDE[place].0.to_string()), self.beside[place], BESIDE[place].1)));
+        wants.extend((0..4).map(|at| (of(format!("type and deadweight {:?}", TURNING[at])), self.turning[at], 20)));
         wants
     }
     fn print(&self) {
@@ -585,6 +594,7 @@ impl Trials {
         println!("ice classes {:?}, with f_i {}, ranges {}, whole by methods 2 and 3 {:?}", ice, structural, ranged, whole);
         let beside: Vec<String> = BESIDE.iter().zip(&self.beside).map(|((what, _), count)| format!("{} {}", what, count)).collect();
         println!("fleet: beside them, not exact: {}", beside.join("; "));
+        println!("fleet: at design draught with 200,000 and 200,001 t, as tankers with 100,000 and 100,001 t: {:?}", self.turning);
     }
 }
 

@@ -150,7 +150,7 @@ fn other_readings(ship: &Block) -> Vec<u64> {
     vec![75 * total / 100, 83 * total / 100, total, with(ENGINES, 1) / 100, with(limit(0), 0) / 100]
 }
 
-// The same where the sum of P_ME is no whole number of kilowatts, and that sum rounded down and up.
+// Trials at these powers and at the sum of P_ME rounded down and up, which most often is no whole number of kilowatts.
 fn at_other_powers(random: &mut Random, out: &mut Vec<Trial>) {
     for (kind, method) in KINDS.iter() {
         for each in 0..200 {
