@@ -157,8 +157,11 @@ module _ {s : Ship} {f : Figures ℕ} (t : Accepted-record s) (one : Stands-for 
   pub close : upper s * 100000 ≤ lower s * 100000 + upper s + 200000
   close = rw (lower-is t, upper-is t, stands-most one, stands-least one) (rw (stands-most one) at (law.near false (ranges-kept t)))
 
-  -- Where only fractions enter, f_i counted, they are the exact index rounded down and up: types 1 to 7 with f_c 1 and a declared speed or a trial at
-  -- the sum of P_ME.
+  -- Where only fractions enter, f_i counted, the index is one, and they are it rounded down and up: types 1 to 7 with f_c 1 and a declared speed or a
+  -- trial at the sum of P_ME.
+  pub index-fraction : Only-fractions f → (x : Frac) × Enclosed (index f) x x
+  index-fraction only = rw (← stands-most one) (law.a-fraction false (ranges-kept t) (rw (stands-most one) only))
+
   pub rounded-down : Only-fractions f → (n : ℕ) → bounds below (index f) (n // 1000000) → n ≤ lower s
   rounded-down only n h = rw (lower-is t) (law.lower-greatest false (ranges-kept t) (rw (stands-most one) only) n (rw (stands-most one) h))
 

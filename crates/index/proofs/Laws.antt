@@ -254,6 +254,10 @@ module _ (top : Bool) {r : Figures Range} (a : Accepted-figures r) where
     exact-index : (s : Side) → bounds s (index (at-end top r)) ((N * 1000) // (L * knots))
     exact-index s = index-side s _ (rw (at-factor (other s), at-speed (other s), at-emission s) (lies-≈ s same))
 
+    -- So the index is a fraction.
+    pub a-fraction : (x : Frac) × Enclosed (index (at-end top r)) x x
+    a-fraction = (_, record { low = exact-index below; high = exact-index above })
+
     pub lower-greatest : (t : ℕ) → bounds below (index (at-end top r)) (t // 1000000) → t ≤ lower-of (at-end top r)
     unfolding lower-of ship-at
     lower-greatest t h =
