@@ -27,8 +27,8 @@ use Rattle.power.proofs.Laws.{power-law}
 use Rattle.exact.proofs.Rules.{f-i-none, f-l-none, f-c-new}
 use Rattle.exact.proofs.Rules as rules
 use Rattle.exact.proofs.Favour.{stands-most, stands-least, inside-enclosed, ship-inside, low-inside, high-inside}
-use Rattle.ship.specs.Record.{no-build, in-layout, in-class, in-edition}
-use Rattle.ship.specs.Figures.{figures, ice-of, edition-of}
+use Rattle.ship.specs.Record.{no-build, in-layout, in-class, in-edition, declared-record}
+use Rattle.ship.specs.Figures.{range-of, method-of, figures, ice-of, edition-of}
 use Rattle.ship.specs.Refusals.{number-of, First, given}
 use Rattle.ship.specs.Rules.{outside, layout-refused, type-refused, tests, refusal-of, ice-refused}
 use Rattle.ship.specs.Accepted.{Within, Each, New-ship, Accepted-figures}
@@ -53,7 +53,6 @@ use Rattle.block.proofs.Theorems as block
 use Rattle.propeller.specs.Propeller.{exactly, Speed}
 use Rattle.index.specs.Attained.{speed-of, lower-of, upper-of, index-of}
 use Rattle.index.specs.declared.Index.{Index}
-use Rattle.index.proofs.Laws.{one-speed-one-index}
 use Rattle.index.proofs.Laws as law
 use Rattle.index.proofs.Editions.{bounds-under}
 use Rattle.factor.proofs.Laws.{vehicles-full}
@@ -285,15 +284,27 @@ power-one h = power-law h .of-one refl
 pub root-one : {n : ℕ} → Moderate n n → (cube-root-of n n .low ≡ cube-root-of n n .scale) × (cube-root-of n n .high ≡ cube-root-of n n .scale)
 root-one h = cube-root-of-is h .of-one refl
 
--- And a trial at the sum of P_ME has the bounds of the same ship with that speed declared, of every type and whatever f_c.
-pub as-if-declared : {s s' : Ship} {f : Figures ℕ} {v : ℕ} → Accepted-record s → Accepted-record s' → Stands-for (figures s) f → Stands-for (figures s') (declaring v f)
-    → Speed-as-recorded f v → (lower s ≡ lower s') × (upper s ≡ upper s')
-as-if-declared {f = f} {v} t t' stands stands' h =
-    let same = speed-recorded t stands h .1 ∙ sym (speed-recorded t' stands' without-trial .1) in
-    let both = one-speed-one-index f v same in (
-      lower-is t ∙ ap lower-of (stands-most stands) ∙ both .0 ∙ sym (lower-is t' ∙ ap lower-of (stands-most stands')),
-      upper-is t ∙ ap upper-of (stands-least stands) ∙ both .1 ∙ sym (upper-is t' ∙ ap upper-of (stands-least stands')),
-    )
+-- And a trial at the sum of P_ME is answered as the same record with its speed declared, of every type, whatever f_c, and with ranges of consumption.
+pub declared-figures : (s : Ship) → figures (declared-record s) ≡ declaring (range-of (s .speed)) (figures s)
+unfolding figures method-of
+declared-figures s = refl
+
+module _ {s : Ship} (t : Accepted-record s) (t' : Accepted-record (declared-record s)) (most : Speed-as-recorded (most-favourable (figures s)) (s .speed .high))
+    (least : Speed-as-recorded (least-favourable (figures s)) (s .speed .low)) where
+  same-lower : lower-of (most-favourable (figures s)) ≡ lower-of (most-favourable (figures (declared-record s)))
+  unfolding ship-at method-at
+  same-lower = rw (declared-figures s) (law.as-declared (most-favourable (figures s)) (s .speed .high) (law.speed-recorded false (ranges-kept t) most) .0)
+
+  same-upper : upper-of (least-favourable (figures s)) ≡ upper-of (least-favourable (figures (declared-record s)))
+  unfolding ship-at method-at
+  same-upper = rw (declared-figures s) (law.as-declared (least-favourable (figures s)) (s .speed .low) (law.speed-recorded true (ranges-kept t) least) .1)
+
+  pub as-if-declared : answer-of s ≡ answer-of (declared-record s)
+  unfolding index-of
+  as-if-declared =
+      record-bounded s (t .none)
+      ∙ ap₂ (λ l u. Bounds (record { lower = l; upper = u })) same-lower same-upper
+      ∙ sym (record-bounded (declared-record s) (t' .none))
 
 -- ── General cargo, cranes, common structural rules, layout 2: document 02, Req 03 ───────────
 

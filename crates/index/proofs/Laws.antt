@@ -272,10 +272,14 @@ module _ (top : Bool) {r : Figures Range} (a : Accepted-figures r) where
         let x : N * 1000 * 1000000 ≤ t * (L * knots) = rw (suc-pred-eq-of-pos work-some) at (k .cross) in
         ceil-least (upper-ceil sized-upper) t (rw (at-speed below, at-factor below, at-emission above) (omega arith))
 
--- Of one speed there is one pair of bounds, whatever method it came by.
-pub one-speed-one-index : (f : Figures ℕ) (v : ℕ) → speed-of f ≡ speed-of (declaring v f) → (lower-of f ≡ lower-of (declaring v f)) × (upper-of f ≡ upper-of (declaring v f))
+-- Of one speed there is one pair of bounds, whatever method it came by: that of the same ship with the speed declared.
+declared-speed : (f : Figures ℕ) (v : ℕ) → speed-of (declaring v f) ≡ exactly (v * 10000)
+unfolding speed-of
+declared-speed f v = declared-exact v _ _ _
+
+pub as-declared : (f : Figures ℕ) (v : ℕ) → speed-of f ≡ exactly (v * 10000) → (lower-of f ≡ lower-of (declaring v f)) × (upper-of f ≡ upper-of (declaring v f))
 unfolding lower-of upper-of emitted factor-of main-N auxiliary-N
-one-speed-one-index f v e = (rw e, rw e)
+as-declared f v e = let same : speed-of f ≡ speed-of (declaring v f) = e ∙ sym (declared-speed f v) in (rw same, rw same)
 
 -- ── Demand 3 ────────────────────────────────────────────────────────────────────────────────
 

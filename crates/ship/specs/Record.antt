@@ -7,6 +7,7 @@ use lib.ListN.{length}
 use Rattle.ship.specs.declared.Engine.{Engine}
 use Rattle.ship.specs.declared.Crane.{Crane}
 use Rattle.ship.specs.declared.Build.{Build}
+use Rattle.ship.specs.declared.Trial.{Trial}
 use Rattle.ship.specs.declared.Particulars.{Particulars}
 use Rattle.ship.specs.declared.Ship.{Ship}
 
@@ -31,17 +32,17 @@ pub record Entries (s : Ship) : Type 0 where
   pub engines : length (s .engines) ≡ 4
   pub gear : length (s .particulars .build .gear) ≡ 8
 
--- Particulars with another ice class, layout and build.
-abbrev pub with-build : (ice layout : ℕ) → Build → Particulars → Particulars
-with-build ice layout build p =
+-- Particulars with another speed method, trial, ice class, layout and build.
+abbrev pub particulars-with : (method : ℕ) → Trial → (ice layout : ℕ) → Build → Particulars → Particulars
+particulars-with method run ice layout build p =
     record {
       imo = p .imo;
       kind = p .kind;
       deadweight = p .deadweight;
       gross = p .gross;
       cargo = p .cargo;
-      method = p .method;
-      trial = p .trial;
+      method = method;
+      trial = run;
       supply = p .supply;
       table = p .table;
       ice = ice;
@@ -49,6 +50,9 @@ with-build ice layout build p =
       layout = layout;
       build = build;
     }
+
+abbrev pub with-build : (ice layout : ℕ) → Build → Particulars → Particulars
+with-build ice layout build p = particulars-with (p .method) (p .trial) ice layout build p
 
 -- The same record with these.
 abbrev pub ship-with : (ice layout : ℕ) → Build → Ship → Ship
@@ -75,3 +79,12 @@ in-edition edition s =
     (s .particulars .layout)
     (record { lightweight = b .lightweight; hull = b .hull; cranes = b .cranes; gear = b .gear; edition = edition })
     s
+
+-- The same record with its speed declared, and so without a trial.
+abbrev pub no-trial : Trial
+no-trial = record { power = 0; deadweight = record { tonnes = 0 } }
+
+abbrev pub declared-record : Ship → Ship
+declared-record s =
+    let p = s .particulars in
+    record { particulars = particulars-with 1 no-trial (p .ice) (p .layout) (p .build) p; speed = s .speed; auxiliary = s .auxiliary; engines = s .engines }
