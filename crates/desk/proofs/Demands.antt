@@ -38,6 +38,8 @@ use Rattle.ship.specs.declared.Ship.{Ship}
 use Rattle.ship.proofs.Tests.{inside as inside-of}
 use Rattle.ship.proofs.Layouts as alike
 use Rattle.ship.proofs.Editions as editions
+use Rattle.ship.proofs.Declaring.{declared-accepted, recorded-sailed}
+use Rattle.ship.proofs.Right.{numbers-accepted}
 use Rattle.ship.proofs.Order.{first-is, first-one, none}
 use Rattle.ship.specs.Ends.{record-end, Narrower-record}
 use Rattle.ship.proofs.Figured.{figures-accepted}
@@ -289,8 +291,15 @@ pub declared-figures : (s : Ship) → figures (declared-record s) ≡ declaring 
 unfolding figures method-of
 declared-figures s = refl
 
-module _ {s : Ship} (t : Accepted-record s) (t' : Accepted-record (declared-record s)) (most : Speed-as-recorded (most-favourable (figures s)) (s .speed .high))
-    (least : Speed-as-recorded (least-favourable (figures s)) (s .speed .low)) where
+-- The record with its speed declared is accepted too.
+module _ {s : Ship} (t : Accepted-record s) (most : Speed-as-recorded (most-favourable (figures s)) (s .speed .high)) (least : Speed-as-recorded (least-favourable (figures s)) (s .speed .low)) where
+  pub declared-too : Accepted-record (declared-record s)
+  unfolding figures ship-at
+  declared-too =
+      let p = s .particulars in
+      let sailed = recorded-sailed high (p .method) (range-of (s .speed)) (p .trial) (numbers-accepted s (t .none) .speed .method) most in
+      record { entries = record { engines = t .entries .engines; gear = t .entries .gear }; none = declared-accepted s sailed (t .none) }
+
   same-lower : lower-of (most-favourable (figures s)) ≡ lower-of (most-favourable (figures (declared-record s)))
   unfolding ship-at method-at
   same-lower = rw (declared-figures s) (law.as-declared (most-favourable (figures s)) (s .speed .high) (law.speed-recorded false (ranges-kept t) most) .0)
@@ -304,7 +313,7 @@ module _ {s : Ship} (t : Accepted-record s) (t' : Accepted-record (declared-reco
   as-if-declared =
       record-bounded s (t .none)
       ∙ ap₂ (λ l u. Bounds (record { lower = l; upper = u })) same-lower same-upper
-      ∙ sym (record-bounded (declared-record s) (t' .none))
+      ∙ sym (record-bounded (declared-record s) (declared-too .none))
 
 -- ── General cargo, cranes, common structural rules, layout 2: document 02, Req 03 ───────────
 

@@ -31,10 +31,10 @@ use Rattle.ship.proofs.Right.{no-refusal}
 use Rattle.ship.proofs.Tests.{neither, not-with, inside, each-used}
 
 -- A test that fails.
-abbrev Fails : Bool → Type 0
+abbrev pub Fails : Bool → Type 0
 Fails b = b ≡ false
 
-either : {a b : Bool} → Fails a → Fails b → Fails (a || b)
+pub either : {a b : Bool} → Fails a → Fails b → Fails (a || b)
 either p q = rw (p, q)
 
 -- What follows from two tests that fail, part by part.
@@ -49,14 +49,14 @@ and true f p q = f refl p q
 and false f p q = refl
 
 -- From one test.
-or' : {a a' c c' : Bool} → (Fails a → Fails c) → (Fails a' → Fails c') → Fails (a || a') → Fails (c || c')
+pub or' : {a a' c c' : Bool} → (Fails a → Fails c) → (Fails a' → Fails c') → Fails (a || a') → Fails (c || c')
 or' {a} {a'} f g p = let k = neither a a' p in either (f (k .0)) (g (k .1))
 
-and' : (g : Bool) {a c : Bool} → (Fails a → Fails c) → Fails (g && a) → Fails (g && c)
+pub and' : (g : Bool) {a c : Bool} → (Fails a → Fails c) → Fails (g && a) → Fails (g && c)
 and' true f p = f p
 and' false f p = refl
 
-same : (a : Bool) → Fails a → Fails a
+pub same : (a : Bool) → Fails a → Fails a
 same a p = p
 
 -- ── A range ─────────────────────────────────────────────────────────────────────────────────

@@ -10,3 +10,4 @@ pub mod Ends
 pub mod Narrowing
 pub mod Layouts
 pub mod Editions
+pub mod Declaring
