@@ -205,7 +205,7 @@ fn exponents(random: &mut Random) -> Vec<(u64, u64)> {
     let mut all = vec![(0, 1), (0, last), (1, last), (last - 1, last), (last - 2, last), (1, 2), (1, 3), (2, 9), (3, 20), (4, 5), (last, last), (0, last + 1)];
     for _ in 0..4 {
         let q = 1 + random.any_size() % last;
-        all.extend(&[(random.up_to(q - 1), q), (q - 1, q), (0, q), (1.min(q - 1), q)]);
+        all.extend(&[(random.up_to(q - 1), q), (q - 1, q), (0, q), (1u64.min(q - 1), q)]);
     }
     all
 }

@@ -34,7 +34,7 @@ fn with_whole_power(ship: &Block) -> Option<Block> {
         }
         block
     };
-    (0..100.min(figure - 99)).map(lowered).find(|block| main_power(block) % 100 == 0)
+    (0..100u64.min(figure - 99)).map(lowered).find(|block| main_power(block) % 100 == 0)
 }
 
 // A ship in either layout whose sum of P_ME is whole kilowatts.
