@@ -9,11 +9,10 @@ use Rattle.exact.specs.Ship as exact
 use Rattle.exact.specs.Index.{As-recorded, without-trial, at-P-ME, at-P-ME-and-Capacity}
 use Rattle.exact.specs.Ranges as ranges
 use Rattle.exact.specs.Ranges.{method-at}
-use Rattle.ship.specs.Record.{no-engine, declared-record}
-use Rattle.ship.specs.Refusals.{first-of}
+use Rattle.ship.specs.Record.{no-engine, no-trial, declared-record}
 use Rattle.ship.specs.Figures.{last-edition, method-of}
 use Rattle.ship.specs.Rules.{outside, between, nonzero, any-used, speed-refused, crossed, range-refused, engine-crossed, ranges-refused}
-use Rattle.ship.specs.Rules.{trial-refused, not-new, edition-refused, hull-tests, plant-tests, trial-tests, refusal-of}
+use Rattle.ship.specs.Rules.{trial-refused, not-new, edition-refused, refusal-of}
 use Rattle.ship.specs.Accepted.{Within}
 use Rattle.ship.specs.declared.Range.{Range}
 use Rattle.ship.specs.declared.Engine.{Engine}
@@ -21,7 +20,7 @@ use Rattle.ship.specs.declared.Trial.{Trial}
 use Rattle.ship.specs.declared.Ship.{Ship}
 use Rattle.ship.specs.declared.Refusal.the-variants as refusal
 use Rattle.ship.proofs.Tests.{neither, not-with}
-use Rattle.ship.proofs.Right.{no-refusal}
+use Rattle.ship.proofs.Right.{no-refusal, changed-accepted}
 use Rattle.ship.proofs.Ends.{Fails, either, or', and', same}
 
 -- ── Rule by rule ────────────────────────────────────────────────────────────────────────────
@@ -63,28 +62,11 @@ edition s =
     or' (same (ltb last-edition number)) (and' (nonzero number) (λ p. either (neither (any-used not-new (s .particulars .used) (s .engines) || eqb (s .auxiliary .source) 3) _ p .0) refl))
 
 pub declared-accepted : (s : Ship) → between 1 3 (s .particulars .method) ≡ true → refusal-of s ≡ refusal.None → refusal-of (declared-record s) ≡ refusal.None
-unfolding refusal-of first-of hull-tests plant-tests trial-tests trial-refused
+unfolding trial-refused
 declared-accepted s sailed none =
+    let p = s .particulars in
     let q = no-refusal s none in
-    let h = q .early in
-    rw (
-      h .layout,
-      h .imo,
-      h .kind,
-      h .deadweight,
-      h .gross,
-      h .cargo,
-      h .engines,
-      h .consumption,
-      h .auxiliary,
-      h .ice,
-      speed (s .particulars .method) (s .particulars .kind) (s .speed) sailed (h .speed),
-      crossings s (h .ranges),
-      q .unused,
-      q .newer,
-      q .build,
-      edition s (q .edition),
-    )
+    changed-accepted s none 1 no-trial (p .build) (speed (p .method) (p .kind) (s .speed) sailed (q .early .speed)) (crossings s (q .early .ranges)) refl (q .newer) (q .build) (edition s (q .edition))
 
 -- ── A speed as recorded is not a statistical one ────────────────────────────────────────────
 

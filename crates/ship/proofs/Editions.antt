@@ -26,7 +26,7 @@ use Rattle.ship.specs.declared.Ship.{Ship}
 use Rattle.ship.specs.declared.Refusal.the-variants as refusal
 use Rattle.ship.proofs.Tests.{neither, not-with, and-false, is-zero, each-used}
 use Rattle.ship.proofs.Figured.{each-main}
-use Rattle.ship.proofs.Right.{by-method, no-refusal, numbers-accepted}
+use Rattle.ship.proofs.Right.{by-method, no-refusal, changed-accepted, numbers-accepted}
 
 -- ── f_m by number ───────────────────────────────────────────────────────────────────────────
 
@@ -117,29 +117,11 @@ module _ (s : Ship) (none : refusal-of s ≡ refusal.None) (new : s .particulars
     layout-passed = ne-eqb (s .particulars .layout) 1 (λ h. new (older s none h))
 
     pub every-edition : refusal-of (in-edition edition s) ≡ refusal.None
-    unfolding refusal-of first-of hull-tests plant-tests trial-tests trial-refused build-refused
+    unfolding trial-refused build-refused
     every-edition =
+        let p = s .particulars in
         let q = no-refusal s none in
-        let h = q .early in
-        rw (
-          h .layout,
-          h .imo,
-          h .kind,
-          h .deadweight,
-          h .gross,
-          h .cargo,
-          h .engines,
-          h .consumption,
-          h .auxiliary,
-          h .ice,
-          h .speed,
-          h .ranges,
-          q .trial,
-          q .unused,
-          layout-passed,
-          q .build,
-          edition-passed,
-        )
+        changed-accepted s none (p .method) (p .trial) (in-edition edition s .particulars .build) (q .early .speed) (q .early .ranges) (q .trial) (rw layout-passed) (q .build) edition-passed
 
 -- ── Every ship inside her ranges ────────────────────────────────────────────────────────────
 

@@ -10,7 +10,7 @@ use lib.Dec.{eqb, ltb, leb, eqb·suc-zero}
 use lib.ListN.{getD, length}
 use Rattle.exact.specs.Index.{Capacity, sum-P-ME}
 use Rattle.exact.specs.Ranges.{engines-at, low}
-use Rattle.ship.specs.Record.{no-engine, no-crane}
+use Rattle.ship.specs.Record.{no-engine, no-crane, record-with}
 use Rattle.ship.specs.Refusals.{first-of}
 use Rattle.ship.specs.Figures.{kinds, kind-of, Listed, last-ice, last-edition, Fuelled, deadweight-of, hull-of, crane-of, mains}
 use Rattle.ship.specs.Rules.{outside, between, nonzero, any-used, any-below, layout-refused, imo-refused, type-refused, deadweight-refused, gross-refused, volume-refused, engines-refused}
@@ -24,6 +24,7 @@ use Rattle.ship.specs.declared.Engine.{Engine}
 use Rattle.ship.specs.declared.Hull.{Hull}
 use Rattle.ship.specs.declared.Crane.{Crane}
 use Rattle.ship.specs.declared.Build.{Build}
+use Rattle.ship.specs.declared.Trial.{Trial}
 use Rattle.ship.specs.declared.Particulars.{Particulars}
 use Rattle.ship.specs.declared.Ship.{Ship}
 use Rattle.ship.specs.declared.Refusal.{Refusal}
@@ -95,6 +96,19 @@ all-passed zeros s e =
 pub no-refusal : (s : Ship) → refusal-of s ≡ refusal.None → Passed false s
 unfolding refusal-of
 no-refusal = all-passed false
+
+-- An accepted record with another speed method, trial or build is accepted where it passes the rules that look at these.
+module _ (s : Ship) (none : refusal-of s ≡ refusal.None) (method : ℕ) (run : Trial) (build : Build) where
+  abbrev changed : Ship
+  changed = record-with method run (s .particulars .ice) (s .particulars .layout) build s
+
+  pub changed-accepted : speed-refused method (s .particulars .kind) (s .speed) ≡ false → ranges-refused changed ≡ false → trial-refused (changed .particulars) (s .engines) ≡ false
+      → newer-refused (s .particulars .layout) build ≡ false → build-refused (s .particulars .kind) build ≡ false → edition-refused changed ≡ false → refusal-of changed ≡ refusal.None
+  unfolding refusal-of first-of hull-tests plant-tests trial-tests
+  changed-accepted speed ranges trial newer built edition =
+      let q = no-refusal s none in
+      let h = q .early in
+      rw (h .layout, h .imo, h .kind, h .deadweight, h .gross, h .cargo, h .engines, h .consumption, h .auxiliary, h .ice, speed, ranges, trial, q .unused, newer, built, edition)
 
 -- A block whose bytes are refused nothing has a record that is refused nothing.
 pub own-refusal : (zeros : Bool) (s : Ship) → first-of (tests zeros s) refusal.None ≡ refusal.None → refusal-of s ≡ refusal.None

@@ -55,14 +55,17 @@ abbrev pub with-build : (ice layout : ℕ) → Build → Particulars → Particu
 with-build ice layout build p = particulars-with (p .method) (p .trial) ice layout build p
 
 -- The same record with these.
-abbrev pub ship-with : (ice layout : ℕ) → Build → Ship → Ship
-ship-with ice layout build s =
+abbrev pub record-with : (method : ℕ) → Trial → (ice layout : ℕ) → Build → Ship → Ship
+record-with method run ice layout build s =
     record {
-      particulars = with-build ice layout build (s .particulars);
+      particulars = particulars-with method run ice layout build (s .particulars);
       speed = s .speed;
       auxiliary = s .auxiliary;
       engines = s .engines;
     }
+
+abbrev pub ship-with : (ice layout : ℕ) → Build → Ship → Ship
+ship-with ice layout build s = record-with (s .particulars .method) (s .particulars .trial) ice layout build s
 
 -- The same record in another layout, ice class or edition.
 abbrev pub in-layout : ℕ → Ship → Ship
@@ -85,6 +88,4 @@ abbrev pub no-trial : Trial
 no-trial = record { power = 0; deadweight = record { tonnes = 0 } }
 
 abbrev pub declared-record : Ship → Ship
-declared-record s =
-    let p = s .particulars in
-    record { particulars = particulars-with 1 no-trial (p .ice) (p .layout) (p .build) p; speed = s .speed; auxiliary = s .auxiliary; engines = s .engines }
+declared-record s = record-with 1 no-trial (s .particulars .ice) (s .particulars .layout) (s .particulars .build) s
