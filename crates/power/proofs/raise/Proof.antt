@@ -1,0 +1,49 @@
+-- `power::raise` meets its contract: what the digits still to come make of the running pair is the answer all along. Assumes nothing.
+use mathlib.Core.Path.{_≡_, refl, _∙_}
+use Prim.Native.Nat.{ℕ, _+_, _-_, _*_, _/_, _%_, _^_, _≤_, _<_}
+use native.Mathlib.Omega.{arith}
+use Rattle.formula.specs.Formula.{Side, below, above}
+use Rattle.power.specs.Numbers.{Norm}
+use Rattle.power.specs.Steps.{digits, unraised, raise-of}
+use Rattle.power.proofs.Squares.{end, means-are}
+use Rattle.power.proofs.Digits.{none-held, factor-is, digit-small, raise-next, raise-end}
+use Rattle.power.proofs.raise.Statement.{statement}
+use Rattle.power.proofs.raise.Tie as tie
+
+abbrev Inv-loop : tie.InvT-loop
+Inv-loop x d p₀ rest₀ left₀ p rest left = ((s : Side) → Norm (end s p)) × (raise-of x p rest left ≡ raise-of x (unraised x) d digits)
+
+abbrev μ-loop : tie.MeasureT-loop
+μ-loop x d p₀ rest₀ left₀ p rest left = left
+
+loop-holds : tie.Need-loop-holds Inv-loop μ-loop
+loop-holds c = (none-held (c .before .args .x) (c .before .pre) .norm, refl)
+
+factor-requires : tie.Need-factor-requires Inv-loop μ-loop
+factor-requires c κs = tt
+
+means-requires : tie.Need-means-requires Inv-loop μ-loop
+means-requires c κs =
+    let s = c .before .before .loop in
+    let y = factor-is _ (s .rest % 2) (digit-small (s .rest)) (c .before .before .before .before .pre) in
+    ((s .inv .0 below, s .inv .0 above), rw (c .factor .ensures) (y .norm below, y .norm above))
+
+sub-left : tie.Need-sub-left Inv-loop μ-loop
+sub-left c = omega arith
+
+loop-less : tie.Need-loop-less Inv-loop μ-loop
+loop-less c = omega arith
+
+loop-again : tie.Need-loop-again Inv-loop μ-loop
+loop-again c =
+    let s = c .before .before .before .loop in
+    let y = factor-is _ (s .rest % 2) (digit-small (s .rest)) (c .before .before .before .before .before .pre) in
+    rw (c .means .ensures, c .before .factor .ensures) (means-are (s .inv .0) (y .norm) .norm, raise-next _ _ (s .rest) (s .left) (omega arith) ∙ s .inv .1)
+
+returns : tie.Need-returns Inv-loop μ-loop
+returns c =
+    let s = c .before .loop in
+    raise-end _ _ (s .rest) (s .left) (omega arith) ∙ s .inv .1
+
+pub raise-spec : {M : Type 1} → statement M
+raise-spec = tie.close (tie.spec Inv-loop μ-loop loop-holds factor-requires means-requires sub-left loop-less loop-again returns)
