@@ -1,10 +1,9 @@
 -- `power::raise` meets its contract: what the digits still to come make of the running pair is the answer all along. Assumes nothing.
 use mathlib.Core.Path.{_≡_, refl, _∙_}
-use Prim.Native.Nat.{ℕ, _+_, _-_, _*_, _/_, _%_, _^_, _≤_, _<_}
 use native.Mathlib.Omega.{arith}
 use Rattle.formula.specs.Formula.{Side, below, above}
 use Rattle.power.specs.Numbers.{Norm}
-use Rattle.power.specs.Steps.{digits, unraised, raise-of}
+use Rattle.power.specs.Steps.{lowest, digits, digit-factor, means-of, unraised, raise-of}
 use Rattle.power.proofs.Squares.{end, means-are}
 use Rattle.power.proofs.Digits.{none-held, factor-is, digit-small, raise-next, raise-end}
 use Rattle.power.proofs.raise.Statement.{statement}
@@ -19,26 +18,21 @@ abbrev μ-loop : tie.MeasureT-loop
 loop-holds : tie.Need-loop-holds Inv-loop μ-loop
 loop-holds c = (none-held (c .before .args .x) (c .before .pre) .norm, refl)
 
-factor-requires : tie.Need-factor-requires Inv-loop μ-loop
-factor-requires c κs = tt
+loop-again : tie.Need-loop-again Inv-loop μ-loop
+loop-again c =
+    let s = c .before .before .before .loop in
+    let start = c .before .before .before .before .before in
+    let x = start .args .x in
+    let digit : c .before .factor .result ≡ digit-factor x (lowest (s .rest)) = c .before .factor .ensures in
+    let next : c .means .result ≡ means-of (s .p) (c .before .factor .result) = c .means .ensures in
+    let norms = factor-is x (lowest (s .rest)) (digit-small (s .rest)) (start .pre) in
+    rw (next, digit) (means-are (s .inv .0) (norms .norm) .norm, raise-next x (s .p) (s .rest) (s .left) (omega arith) ∙ s .inv .1)
 
 means-requires : tie.Need-means-requires Inv-loop μ-loop
 means-requires c κs =
     let s = c .before .before .loop in
-    let y = factor-is _ (s .rest % 2) (digit-small (s .rest)) (c .before .before .before .before .pre) in
-    ((s .inv .0 below, s .inv .0 above), rw (c .factor .ensures) (y .norm below, y .norm above))
-
-sub-left : tie.Need-sub-left Inv-loop μ-loop
-sub-left c = omega arith
-
-loop-less : tie.Need-loop-less Inv-loop μ-loop
-loop-less c = omega arith
-
-loop-again : tie.Need-loop-again Inv-loop μ-loop
-loop-again c =
-    let s = c .before .before .before .loop in
-    let y = factor-is _ (s .rest % 2) (digit-small (s .rest)) (c .before .before .before .before .before .pre) in
-    rw (c .means .ensures, c .before .factor .ensures) (means-are (s .inv .0) (y .norm) .norm, raise-next _ _ (s .rest) (s .left) (omega arith) ∙ s .inv .1)
+    let norms = factor-is _ (lowest (s .rest)) (digit-small (s .rest)) (c .before .before .before .before .pre) in
+    ((s .inv .0 below, s .inv .0 above), rw (c .factor .ensures) (norms .norm below, norms .norm above))
 
 returns : tie.Need-returns Inv-loop μ-loop
 returns c =
@@ -46,4 +40,4 @@ returns c =
     raise-end _ _ (s .rest) (s .left) (omega arith) ∙ s .inv .1
 
 pub raise-spec : {M : Type 1} → statement M
-raise-spec = tie.close (tie.spec Inv-loop μ-loop loop-holds factor-requires means-requires sub-left loop-less loop-again returns)
+raise-spec = tie.close (tie.spec Inv-loop μ-loop loop-holds (λ c κs. tt) means-requires (λ c. omega arith) (λ c. omega arith) loop-again returns)
