@@ -143,9 +143,18 @@ static struct yagmurzol_answer bounded_wrongly(struct yagmurzol_answer answer)
     return other;
 }
 
+/* The fault of a library that keeps a pair of numbers on the stack for each step down, until the right answer comes back. */
+static struct yagmurzol_answer answered_below(const uint8_t *block, size_t length, int steps)
+{
+    volatile size_t kept[2] = {length, length};
+    struct yagmurzol_answer answer = steps > 1 ? answered_below(block, length, steps - 1) : right_ask(block, length);
+    return kept[0] == kept[1] ? answer : refused(1);
+}
+
 struct yagmurzol_answer yagmurzol_ask(const uint8_t *block, size_t length)
 {
-    struct yagmurzol_answer answer = measured_wrongly(block, length);
+    int deep = fault("keeps pairs on the stack");
+    struct yagmurzol_answer answer = deep ? answered_below(block, length, 35) : measured_wrongly(block, length);
     touched_wrongly(block, length);
     return kept_wrongly(block, length, answer.refusal == 0 ? bounded_wrongly(answer) : refused_wrongly(answer));
 }
