@@ -5,7 +5,7 @@ use Rattle.formula.specs.Formula.{Side, below, above}
 use Rattle.power.specs.Numbers.{Norm}
 use Rattle.power.specs.Steps.{lowest, digits, digit-factor, means-of, unraised, raise-of}
 use Rattle.power.proofs.Squares.{end, means-are}
-use Rattle.power.proofs.Digits.{none-held, factor-is, digit-small, raise-next, raise-end}
+use Rattle.power.proofs.Digits.{none-held, lowest-factor, raise-next, raise-end}
 use Rattle.power.proofs.raise.Statement.{statement}
 use Rattle.power.proofs.raise.Tie as tie
 
@@ -25,13 +25,13 @@ loop-again c =
     let x = start .args .x in
     let digit : c .before .factor .result ≡ digit-factor x (lowest (s .rest)) = c .before .factor .ensures in
     let next : c .means .result ≡ means-of (s .p) (c .before .factor .result) = c .means .ensures in
-    let norms = factor-is x (lowest (s .rest)) (digit-small (s .rest)) (start .pre) in
+    let norms = lowest-factor x (s .rest) (start .pre) in
     rw (next, digit) (means-are (s .inv .0) (norms .norm) .norm, raise-next x (s .p) (s .rest) (s .left) (omega arith) ∙ s .inv .1)
 
 means-requires : tie.Need-means-requires Inv-loop μ-loop
 means-requires c κs =
     let s = c .before .before .loop in
-    let norms = factor-is _ (lowest (s .rest)) (digit-small (s .rest)) (c .before .before .before .before .pre) in
+    let norms = lowest-factor _ (s .rest) (c .before .before .before .before .pre) in
     ((s .inv .0 below, s .inv .0 above), rw (c .factor .ensures) (norms .norm below, norms .norm above))
 
 returns : tie.Need-returns Inv-loop μ-loop
