@@ -1,7 +1,7 @@
 // Works out the cases that it reads, for the tests from outside: a case is five little-endian words of 8 bytes, what is
 // asked and up to four numbers, and its answer is a line of numbers, or `-` where the numbers are outside the function's domain.
 // Asked is 1 the square root of a; 2 its cube root; 3 the cube root of a/b; 4 a/b in millionths, rounded down and up;
-// 5 the power (a/b)^(c/d).
+// 5 the power (a/b)^(c/d); 6 the plain power.
 use fields::number_at;
 use libc::STDIN_FILENO;
 use libc::STDOUT_FILENO;
@@ -82,7 +82,7 @@ fn millionths(n: u64, d: u64) {
     );
 }
 
-fn raised(a: u64, b: u64, p: u64, q: u64) {
+fn raised(plain: bool, a: u64, b: u64, p: u64, q: u64) {
     if a < b {
         outside();
         return;
@@ -107,7 +107,11 @@ fn raised(a: u64, b: u64, p: u64, q: u64) {
         outside();
         return;
     }
-    let r = power::power(a, b, p, q);
+    let r = if plain {
+        plain_power::power(a, b, p, q)
+    } else {
+        power::power(a, b, p, q)
+    };
     two(r.lo, r.hi);
 }
 
@@ -118,7 +122,8 @@ fn answer(k: Case) {
         2 => one(number::root::cube_root(k.a)),
         3 => ratio(k.a, k.b),
         4 => millionths(k.a, k.b),
-        5 => raised(k.a, k.b, k.c, k.d),
+        5 => raised(false, k.a, k.b, k.c, k.d),
+        6 => raised(true, k.a, k.b, k.c, k.d),
         _ => outside(),
     }
 }

@@ -1,0 +1,4 @@
+pub mod Squares
+pub mod Digits
+pub mod Leading
+pub mod Laws
