@@ -10,9 +10,9 @@ use lib.Count.{leadingZeros, leading-top}
 use lib.ListN.{getD}
 use Rattle.power.specs.declared.Climb.{Climb}
 use Rattle.power.specs.Table.{powers}
-use Rattle.power.specs.Steps.{times-of, first-digit, digit-of, first-of, step-of, third-of, complement-of}
+use Rattle.power.specs.Steps.{times-of, first-digit, digit-of, first-of, step-of, second-of, third-of, inverse-slope, short, complement-of}
 use Rattle.power.proofs.Twos.{AtMost, AtLeast, most-mul, least-mul, most-down, least-up, least-none, turn-least, turn-most}
-use Rattle.power.proofs.Entries.{Factor, Takes, coarse-is, middle-is, fine-is, start-is, rest-least, rest-most}
+use Rattle.power.proofs.Entries.{Factor, Takes, first-left, second-left, third-left, coarse-is, middle-is, fine-is, middle-takes, fine-takes, start-is, rest-least, rest-most}
 use Rattle.power.proofs.Products.{times-down, times-up, Grown, none-grown, times-grown}
 
 -- ── No more than 2^63, and near it ──────────────────────────────────────────────────────────
@@ -66,12 +66,12 @@ taken s w t d pos small fits take = go ((2 ^ 63 - t) / 2 ^ 31 * s / 2 ^ 32) (ome
         record { high = close-high (t * d) (times-of t d) (2 ^ 63) (lit≤ tt) (times-down t d) a; near = omega arith }
 
 -- The first digit.
-first-close : (m i d : ℕ) → (64 + i) * 2 ^ 56 ≤ m → m < (65 + i) * 2 ^ 56 → (65 + i) * d ≤ 2 ^ 70 → 2 ^ 70 ≤ (64 + i) * d + 311470000000000000 * 2 ^ 7 → Close 311470000000000002 (times-of m d)
+first-close : (m i d : ℕ) → (64 + i) * 2 ^ 56 ≤ m → m < (65 + i) * 2 ^ 56 → (65 + i) * d ≤ 2 ^ 70 → 2 ^ 70 ≤ (64 + i) * d + first-left * 2 ^ 7 → Close (first-left + 2) (times-of m d)
 first-close m i d low high up down =
     let a : m * d ≤ 2 ^ 63 * 2 ^ 63 = le-trans (mul-le-mul-right d (le-of-lt high)) (le-trans (le-of-eq (omega arith)) (mul-le-mul-right (2 ^ 56) up)) in
-    let b : 2 ^ 70 * 2 ^ 56 ≤ ((64 + i) * d + 311470000000000000 * 2 ^ 7) * 2 ^ 56 = mul-le-mul-right (2 ^ 56) down in
+    let b : 2 ^ 70 * 2 ^ 56 ≤ ((64 + i) * d + first-left * 2 ^ 7) * 2 ^ 56 = mul-le-mul-right (2 ^ 56) down in
     let c : (64 + i) * 2 ^ 56 * d ≤ m * d = mul-le-mul-right d low in
-    let n : 2 ^ 63 ≤ times-of m d + 2 + 0 + 311470000000000000 = close-near (m * d) (times-of m d) (2 ^ 63) 0 311470000000000000 (lit≤ tt) (times-up m d) (le-trans b (le-trans (le-of-eq (omega arith)) (le-trans (spread ((64 + i) * 2 ^ 56 * d) (m * d) (311470000000000000 * 2 ^ 63) c) (le-of-eq (omega arith))))) in
+    let n : 2 ^ 63 ≤ times-of m d + 2 + 0 + first-left = close-near (m * d) (times-of m d) (2 ^ 63) 0 first-left (lit≤ tt) (times-up m d) (le-trans b (le-trans (le-of-eq (omega arith)) (le-trans (spread ((64 + i) * 2 ^ 56 * d) (m * d) (first-left * 2 ^ 63) c) (le-of-eq (omega arith))))) in
     record { high = close-high (m * d) (times-of m d) (2 ^ 63) (lit≤ tt) (times-down m d) a; near = omega arith }
   where
     spread : (x y w : ℕ) → x ≤ y → x + w ≤ y + w
@@ -83,12 +83,12 @@ pub record Reached (m w k : ℕ) (n : Climb) : Type 0 where
   pub close : Close w (n .reached)
   pub grown : Grown m (n .exponent) k (n .reached)
 
-pub first-is : (m : ℕ) → 2 ^ 62 ≤ m → m < 2 ^ 63 → Reached m 311470000000000002 2 (first-of m)
+pub first-is : (m : ℕ) → 2 ^ 62 ≤ m → m < 2 ^ 63 → Reached m (first-left + 2) 2 (first-of m)
 unfolding first-of
 first-is m low high = go (m / 2 ^ 56 - 64) (omega arith) (omega arith) (omega arith)
   where
     go : (i : ℕ) → i < 64 → (64 + i) * 2 ^ 56 ≤ m → m < (65 + i) * 2 ^ 56
-        → Reached m 311470000000000002 2 (record { reached = times-of m (getD powers (first-digit i) 0); exponent = first-digit i * 2 ^ 27 })
+        → Reached m (first-left + 2) 2 (record { reached = times-of m (getD powers (first-digit i) 0); exponent = first-digit i * 2 ^ 27 })
     go i less from to =
         let s = start-is i less in
         let c = first-digit i in
@@ -97,38 +97,38 @@ first-is m low high = go (m / 2 ^ 56 - 64) (omega arith) (omega arith) (omega ar
         record { close = close; grown = rw (zero-add (c * 2 ^ 27)) at (times-grown (omega arith) enough (none-grown m) (coarse-is c (s .few))) }
 
 step-is : {m w k : ℕ} (n : Climb) (s base worth W : ℕ) → 0 < s → 0 < m → W ≤ 2 ^ 60 → Reached m w k n
-    → Factor (digit-of s (n .reached) * worth) (getD powers (base + digit-of s (n .reached)) 0) × Takes s (digit-of s (n .reached)) W (getD powers (base + digit-of s (n .reached)) 0)
-    → Reached m (W + 2 ^ 32 + 2) (k + 2) (step-of n s base worth)
+    → Factor (digit-of s (n .reached) * worth) (getD powers (base + digit-of s (n .reached)) 0)
+    → Takes s (digit-of s (n .reached)) W (getD powers (base + digit-of s (n .reached)) 0) → Reached m (W + 2 ^ 32 + 2) (k + 2) (step-of n s base worth)
 unfolding step-of
-step-is {m} {w} {k} n s base worth W pos mpos small r f =
+step-is {m} {w} {k} n s base worth W pos mpos small r f takes =
     let d = getD powers (base + digit-of s (n .reached)) 0 in
-    let close = taken s W (n .reached) d pos (r .close .high) (le-of-lt (f .0 .high)) (f .1) in
+    let close = taken s W (n .reached) d pos (r .close .high) (le-of-lt (f .high)) takes in
     let enough : 2 ^ 62 ≤ times-of (n .reached) d = omega (arith, close .near) in
-    record { close = close; grown = times-grown mpos enough (r .grown) (f .0) }
+    record { close = close; grown = times-grown mpos enough (r .grown) f }
 
-pub second-few : (t : ℕ) → Close 311470000000000002 t → digit-of 1477 t < 50
+pub second-few : (t : ℕ) → Close (first-left + 2) t → digit-of 1477 t < 50
 unfolding digit-of
 second-few t c = omega (arith, c .near)
 
-pub third-few : (t : ℕ) → Close (11711000000000000 + 2 ^ 32 + 2) t → digit-of 47274 t < 61
+pub third-few : (t : ℕ) → Close (second-left + 2 ^ 32 + 2) t → digit-of 47274 t < 61
 unfolding digit-of
 third-few t c = omega (arith, c .near)
 
 module _ (m : ℕ) (low : 2 ^ 62 ≤ m) (high : m < 2 ^ 63) where
-  pub second-is : Reached m (11711000000000000 + 2 ^ 32 + 2) 4 (step-of (first-of m) 1477 32 (2 ^ 22))
+  pub second-is : Reached m (second-left + 2 ^ 32 + 2) 4 (second-of m)
   second-is =
       let r = first-is m low high in
-      step-is (first-of m) 1477 32 (2 ^ 22) 11711000000000000 (lit≤ tt) (omega arith) (lit≤ tt) r (middle-is _ (second-few _ (r .close)))
+      step-is (first-of m) 1477 32 (2 ^ 22) second-left (lit≤ tt) (omega arith) (lit≤ tt) r (middle-is _ (second-few _ (r .close))) (middle-takes _ (second-few _ (r .close)))
 
-  pub third-is : Reached m (203360000000000 + 2 ^ 32 + 2) 6 (third-of m)
-  third-is = step-is (step-of (first-of m) 1477 32 (2 ^ 22)) 47274 82 (2 ^ 17) 203360000000000 (lit≤ tt) (omega arith) (lit≤ tt) second-is (fine-is _ (third-few _ (second-is .close)))
+  pub third-is : Reached m (third-left + 2 ^ 32 + 2) 6 (third-of m)
+  third-is = step-is (second-of m) 47274 82 (2 ^ 17) third-left (lit≤ tt) (omega arith) (lit≤ tt) second-is (fine-is _ (third-few _ (second-is .close))) (fine-takes _ (third-few _ (second-is .close)))
 
   -- The exponent stays small.
   pub first-exponent : first-of m .exponent ≤ 2 ^ 32
   unfolding first-of
   first-exponent = omega (arith, start-is (m / 2 ^ 56 - 64) (omega arith) .few)
 
-  pub second-exponent : step-of (first-of m) 1477 32 (2 ^ 22) .exponent ≤ 2 ^ 33
+  pub second-exponent : second-of m .exponent ≤ 2 ^ 33
   unfolding step-of
   second-exponent = omega (arith, first-exponent, second-few _ (first-is m low high .close))
 
@@ -138,30 +138,30 @@ module _ (m : ℕ) (low : 2 ^ 62 ≤ m) (high : m < 2 ^ 63) where
 
 -- What takes m to 2^63.
 pub record Complement (m g : ℕ) : Type 0 where
-  pub most : AtMost (2 ^ 63) m (g + 5) (2 ^ 32)
+  pub most : AtMost (2 ^ 63) m (g + short) (2 ^ 32)
   pub least : AtLeast (2 ^ 63 * (2 ^ 61 + 1) ^ 6) (m * (2 ^ 61) ^ 6) g (2 ^ 32)
 
 complement-order : (t P u m Q : ℕ) → t * P * u * (m * Q) ≤ u * P * (m * Q * t)
 complement-order t P u m Q = omega arith
 
-complement-sum : (m w : ℕ) (n : Climb) → 0 < m → w ≤ 203400000000000 → Reached m w 6 n → Complement m (n .exponent + (2 ^ 63 - n .reached) / 2 ^ 20 * 6196328018 / 2 ^ 43)
+complement-sum : (m w : ℕ) (n : Climb) → 0 < m → w ≤ third-left + 2 ^ 32 + 2 → Reached m w 6 n → Complement m (n .exponent + (2 ^ 63 - n .reached) / 2 ^ 20 * inverse-slope / 2 ^ 43)
 complement-sum m w n pos small r = go (n .reached) (n .exponent) (r .close .high) (omega (arith, r .close .near)) (omega (arith, r .close .near)) (r .grown)
   where
-    go : (t e : ℕ) → t ≤ 2 ^ 63 → 2 ^ 63 - t ≤ 203400000000000 → 0 < t → Grown m e 6 t → Complement m (e + (2 ^ 63 - t) / 2 ^ 20 * 6196328018 / 2 ^ 43)
+    go : (t e : ℕ) → t ≤ 2 ^ 63 → 2 ^ 63 - t ≤ third-left + 2 ^ 32 + 2 → 0 < t → Grown m e 6 t → Complement m (e + (2 ^ 63 - t) / 2 ^ 20 * inverse-slope / 2 ^ 43)
     go t e high near tpos g =
         let q = 2 ^ 63 - t in
-        let x = q / 2 ^ 20 * 6196328018 in
+        let x = q / 2 ^ 20 * inverse-slope in
         let k = x / 2 ^ 43 in
         let whole : q + t ≡ 2 ^ 63 = omega arith in
         let down : k * 2 ^ 43 ≤ x = omega arith in
         let up : x < (k + 1) * 2 ^ 43 = omega arith in
-        let sum : e + (k + 5) ≡ e + k + 5 = omega arith in
-        let a : AtMost (2 ^ 63) m (e + (k + 5)) (2 ^ 32) = most-down (mul-pos pos tpos) (omega arith) (most-mul (g .most) (rest-most q t k near whole down up)) in
+        let sum : e + (k + short) ≡ e + k + short = omega arith in
+        let a : AtMost (2 ^ 63) m (e + (k + short)) (2 ^ 32) = most-down (mul-pos pos tpos) (omega arith) (most-mul (g .most) (rest-most q t k near whole down up)) in
         record {
           most = rw sum at a;
           least = least-up (mul-pos (mul-pos pos (lit≤ tt)) tpos) (complement-order t ((2 ^ 61 + 1) ^ 6) (2 ^ 63) m ((2 ^ 61) ^ 6)) (least-mul (g .least) (rest-least q t k tpos whole down));
         }
 
-pub complement-is : (m : ℕ) → 2 ^ 62 ≤ m → m < 2 ^ 63 → (g : ℕ) × Complement m g × (complement-of m ≡ g + 5)
+pub complement-is : (m : ℕ) → 2 ^ 62 ≤ m → m < 2 ^ 63 → (g : ℕ) × Complement m g × (complement-of m ≡ g + short)
 unfolding complement-of
-complement-is m low high = (_, complement-sum m (203360000000000 + 2 ^ 32 + 2) (third-of m) (omega arith) (lit≤ tt) (third-is m low high), refl)
+complement-is m low high = (_, complement-sum m (third-left + 2 ^ 32 + 2) (third-of m) (omega arith) (lit≤ tt) (third-is m low high), refl)

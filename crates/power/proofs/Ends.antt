@@ -5,16 +5,18 @@ use native.Mathlib.Nat.{le-trans, lt-of-lt-of-le, mul-le-mul-left, mul-le-mul-ri
 use native.Mathlib.Omega.{arith}
 use lib.Dec.{lit≤}
 use lib.Pow.{pow-add, pow-mono, pow-pos}
+use Rattle.power.specs.Steps.{with-margin}
 use Rattle.power.proofs.Twos.{AtMost, AtLeast, most-mul, least-mul, most-down, least-up, most-whole, least-whole}
 use Rattle.power.proofs.Entries.{eight-least}
 use Rattle.power.proofs.Raising.{Raised, lost, whole}
 
 -- What the upper end is above the lower one, against all losses: less than 79 units of 2^-35.
-upper-units : (lo hi : ℕ) → hi ≡ lo + (lo * 5 / 2 ^ 31 + 2) → lo * (2 ^ 31 + 5) + 2 ^ 31 + 1 ≤ hi * 2 ^ 31
-upper-units lo hi e = omega arith
+margin-units : (lo : ℕ) → lo * (2 ^ 31 + 5) + 2 ^ 31 + 1 ≤ with-margin lo .hi * 2 ^ 31
+unfolding with-margin
+margin-units lo = omega arith
 
-upper : (lo hi : ℕ) → 2 ^ 30 ≤ lo → hi ≡ lo + (lo * 5 / 2 ^ 31 + 2) → (lo + 1) * (2 ^ 35 + 79) ≤ hi * 2 ^ 35
-upper lo hi low e = omega (arith, upper-units lo hi e)
+upper : (lo hi : ℕ) → 2 ^ 30 ≤ lo → lo * (2 ^ 31 + 5) + 2 ^ 31 + 1 ≤ hi * 2 ^ 31 → (lo + 1) * (2 ^ 35 + 79) ≤ hi * 2 ^ 35
+upper lo hi low h = omega arith
 
 -- r / 2^j is lo and less than one more; x and y are 2^k and 2^j, whose product is 2^33.
 over : (r x y lo hi P Q c d : ℕ) → r ≤ (lo + 1) * y → P * d ≤ Q * c → (lo + 1) * c ≤ hi * d → 0 < d → r * P * x ≤ hi * (Q * (x * y))
@@ -32,7 +34,7 @@ upper-order r P x t hi Q s w h e =
     omega (arith, mul-le-mul-right (2 ^ 30) a)
 
 -- Both ends hold for the exponent e, of a whole part k and a rest f.
-module _ (e k j f r lo hi : ℕ) (e-is : f + k * 2 ^ 32 ≡ e) (sum : k + j ≡ 33) (raised : Raised lost whole f r) (down : lo * 2 ^ j ≤ r) (up : r ≤ (lo + 1) * 2 ^ j) where
+module _ (e k j f r lo : ℕ) (e-is : f + k * 2 ^ 32 ≡ e) (sum : k + j ≡ 33) (raised : Raised lost whole f r) (down : lo * 2 ^ j ≤ r) (up : r ≤ (lo + 1) * 2 ^ j) where
   halves : 2 ^ k * 2 ^ j ≡ 2 ^ 33
   halves = sym (pow-add 2 k j) ∙ ap (λ (i : ℕ). 2 ^ i) sum
 
@@ -41,14 +43,24 @@ module _ (e k j f r lo hi : ℕ) (e-is : f + k * 2 ^ 32 ≡ e) (sum : k + j ≡ 
       let a : AtMost (r * 2 ^ k) (2 ^ 63 * 1) e (2 ^ 32) = rw (← e-is) (most-mul (raised .most) (most-whole k (2 ^ 32))) in
       most-down (lit≤ tt) (lower-order lo r (2 ^ k) (2 ^ j) down halves) a
 
-  pub upper-holds : 2 ^ 30 ≤ lo → hi ≡ lo + (lo * 5 / 2 ^ 31 + 2) → AtLeast hi (2 ^ 30) (e + 8) (2 ^ 32)
-  upper-holds low hi-is =
-      let a = over r (2 ^ k) (2 ^ j) lo hi (lost * (2 ^ 34 + 23)) (whole * 2 ^ 34) (2 ^ 35 + 79) (2 ^ 35) up (lit≤ tt) (upper lo hi low hi-is) (lit≤ tt) in
+  pub upper-holds : 2 ^ 30 ≤ lo → AtLeast (with-margin lo .hi) (2 ^ 30) (e + 8) (2 ^ 32)
+  upper-holds low =
+      let hi = with-margin lo .hi in
+      let a = over r (2 ^ k) (2 ^ j) lo hi (lost * (2 ^ 34 + 23)) (whole * 2 ^ 34) (2 ^ 35 + 79) (2 ^ 35) up (lit≤ tt) (upper lo hi low (margin-units lo)) (lit≤ tt) in
       rw (← e-is) (least-up (lit≤ tt) (upper-order r lost (2 ^ k) (2 ^ 34 + 23) hi whole (2 ^ 34) (2 ^ k * 2 ^ j) a halves) (least-mul (least-mul (raised .least) (least-whole k (2 ^ 32))) eight-least))
 
 -- The ends are near, and in their range.
-pub near-ends : (lo hi : ℕ) → 2 ^ 30 ≤ lo → hi ≡ lo + (lo * 5 / 2 ^ 31 + 2) → hi * 2 ^ 27 ≤ lo * (2 ^ 27 + 1)
-near-ends lo hi low e = omega arith
+pub near-ends : (lo : ℕ) → 2 ^ 30 ≤ lo → with-margin lo .hi * 2 ^ 27 ≤ with-margin lo .lo * (2 ^ 27 + 1)
+unfolding with-margin
+near-ends lo low = omega arith
+
+pub high-end : (lo : ℕ) → lo < 2 ^ 50 → with-margin lo .hi ≤ 2 ^ 51
+unfolding with-margin
+high-end lo h = omega arith
+
+pub order-ends : (lo : ℕ) → with-margin lo .lo ≤ with-margin lo .hi
+unfolding with-margin
+order-ends lo = omega arith
 
 -- r moved down by 33 - k places, of which there are 14 at least.
 pub moved-high : (r j : ℕ) → r < 2 ^ 64 → 14 ≤ j → r / 2 ^ j < 2 ^ 50

@@ -1,4 +1,4 @@
--- The numbers of the tables and of the straight line, each computed once to be what it stands for. Assumes nothing.
+-- The numbers of the table and of the straight line, each computed once to be what it stands for. Assumes nothing.
 use mathlib.Core.Path.{_≡_, refl, ap}
 use mathlib.Core.Bool.{Bool}
 use Prim.Native.Nat.{ℕ, _+_, _-_, _*_, _/_, _^_, _≤_, _<_}
@@ -6,41 +6,43 @@ use native.Mathlib.Nat.{le-trans, le-of-eq, mul-le-mul-left, mul-le-mul-right}
 use native.Mathlib.Omega.{arith}
 use lib.Dec.{leb, ltb, T, leb→le, ltb→lt, lit≤}
 use lib.ListN.{getD}
-use borrow.Author.Tests.{lt-ltb, le-ltb}
-use Rattle.formula.specs.Words.{if}
 use Rattle.power.specs.Table.{powers}
-use Rattle.power.specs.Steps.{first-digit}
-use Rattle.power.proofs.Tests.{both, both-left, both-right, at}
+use Rattle.power.specs.Steps.{first-digit, slope, inverse-slope, short}
+use Rattle.power.proofs.Tests.{both, both-left, both-right, each, at}
 use Rattle.power.proofs.Twos.{AtMost, AtLeast, most-down, least-up, most-finer, least-finer, most-line, least-line}
 use Rattle.power.proofs.Chains.{squared-up, squared-down, up-most, down-least}
 
 -- ── The table ───────────────────────────────────────────────────────────────────────────────
 
-all-four : (a b c d : Bool) → T (both (both a b) (both c d)) → T a × T b × T c × T d
-all-four a b c d t =
-    let l = both-left (both a b) (both c d) t in
-    let r = both-right (both a b) (both c d) t in
-    (both-left a b l, both-right a b l, both-left c d r, both-right c d r)
+-- d is 2^(e / 2^32) in units of 2^-63, rounded down.
+pub record Factor (e d : ℕ) : Type 0 where
+  pub low : 2 ^ 63 ≤ d
+  pub high : d < 2 ^ 64
+  pub most : AtMost d (2 ^ 63) e (2 ^ 32)
+  pub least : AtLeast (d + 1) (2 ^ 63) e (2 ^ 32)
 
--- d is 2^(i / 2^k) in units of 2^-63, rounded down; u and v are it and the next number in units of 2^-96.
-record Entry (k i d : ℕ) : Type 0 where
-  low : 2 ^ 63 ≤ d
-  high : d < 2 ^ 64
-  most : AtMost d (2 ^ 63) i (2 ^ k)
-  least : AtLeast (d + 1) (2 ^ 63) i (2 ^ k)
+-- That it is 2^(i / 2^k) is computed: d and the next number, in units of 2^-96 and squared k times, lie on the two sides of 2^i.
+power? : (k i d : ℕ) → Bool
+power? k i d =
+    both (both (leb (2 ^ 63) d) (ltb d (2 ^ 64)))
+    (both (leb (squared-up (2 ^ 96) k (d * 2 ^ 33)) (2 ^ i * 2 ^ 96)) (leb (2 ^ i * 2 ^ 96) (squared-down (2 ^ 96) k ((d + 1) * 2 ^ 33))))
 
-power? : (k i d u v : ℕ) → Bool
-power? k i d u v = both (both (leb (2 ^ 63) d) (ltb d (2 ^ 64))) (both (leb (squared-up (2 ^ 96) k u) (2 ^ i * 2 ^ 96)) (leb (2 ^ i * 2 ^ 96) (squared-down (2 ^ 96) k v)))
-
-is-power : (k i d : ℕ) → T (power? k i d (d * 2 ^ 33) ((d + 1) * 2 ^ 33)) → Entry k i d
+is-power : (k h i d : ℕ) → 2 ^ k * 2 ^ h ≡ 2 ^ 32 → T (power? k i d) → Factor (i * 2 ^ h) d
 unfolding power?
-is-power k i d t =
-    let h = all-four (leb (2 ^ 63) d) (ltb d (2 ^ 64)) (leb (squared-up (2 ^ 96) k (d * 2 ^ 33)) (2 ^ i * 2 ^ 96)) (leb (2 ^ i * 2 ^ 96) (squared-down (2 ^ 96) k ((d + 1) * 2 ^ 33))) t in
+is-power k h i d whole t =
+    let low = leb (2 ^ 63) d in
+    let high = ltb d (2 ^ 64) in
+    let most = leb (squared-up (2 ^ 96) k (d * 2 ^ 33)) (2 ^ i * 2 ^ 96) in
+    let least = leb (2 ^ i * 2 ^ 96) (squared-down (2 ^ 96) k ((d + 1) * 2 ^ 33)) in
+    let fits = both-left (both low high) (both most least) t in
+    let sides = both-right (both low high) (both most least) t in
+    let below = up-most (2 ^ 96) k (d * 2 ^ 33) i (lit≤ tt) (leb→le _ _ (both-left most least sides)) in
+    let above = down-least (2 ^ 96) k ((d + 1) * 2 ^ 33) i (lit≤ tt) (leb→le _ _ (both-right most least sides)) in
     record {
-      low = leb→le (2 ^ 63) d (h .0);
-      high = ltb→lt d (2 ^ 64) (h .1);
-      most = most-down {t = d * 2 ^ 33} {u = 2 ^ 96} (lit≤ tt) (omega arith) (up-most (2 ^ 96) k (d * 2 ^ 33) i (lit≤ tt) (leb→le _ _ (h .2)));
-      least = least-up {t = (d + 1) * 2 ^ 33} {u = 2 ^ 96} (lit≤ tt) (omega arith) (down-least (2 ^ 96) k ((d + 1) * 2 ^ 33) i (lit≤ tt) (leb→le _ _ (h .3)));
+      low = leb→le _ _ (both-left low high fits);
+      high = ltb→lt _ _ (both-right low high fits);
+      most = rw whole at (most-finer (2 ^ h) (most-down {v = d} {w = 2 ^ 63} (lit≤ tt) (omega arith) below));
+      least = rw whole at (least-finer (2 ^ h) (least-up {v = d + 1} {w = 2 ^ 63} (lit≤ tt) (omega arith) above));
     }
 
 -- Where the digit is c, the entry takes a number to no more than 2^63, and to no less than w below it.
@@ -61,91 +63,70 @@ is-taking scale c w d t =
     let r = both-right a (both b e) t in
     record { fits = ltb→lt _ _ (both-left a (both b e) t); up = leb→le _ _ (both-left b e r); down = leb→le _ _ (both-right b e r) }
 
-right : (j d : ℕ) → Bool
-right j d =
-    if (ltb j 32) (power? 5 j d (d * 2 ^ 33) ((d + 1) * 2 ^ 33))
-    (if (ltb j 82)
-    (both (takes? 1477 (j - 32) 11711000000000000 d) (power? 10 (j - 32) d (d * 2 ^ 33) ((d + 1) * 2 ^ 33)))
-    (both (takes? 47274 (j - 82) 203360000000000 d) (power? 15 (j - 82) d (d * 2 ^ 33) ((d + 1) * 2 ^ 33))))
+-- What is left to 2^63, at most, after each digit.
+abbrev pub first-left : ℕ
+first-left = 311470000000000000
 
-all-right : (j : ℕ) → j < 143 → T (right j (getD powers j 0))
-unfolding powers right power? takes? squared-up squared-down
-all-right j h = at (λ j. right j (getD powers j 0)) 143 tt j h
+abbrev pub second-left : ℕ
+second-left = 11711000000000000
+
+abbrev pub third-left : ℕ
+third-left = 203360000000000
+
+-- One computed test for each part of the table.
+pub coarse-is : (i : ℕ) → i < 32 → Factor (i * 2 ^ 27) (getD powers i 0)
+unfolding powers power? squared-up squared-down
+coarse-is i h = is-power 5 27 i _ refl (at (λ i. power? 5 i (getD powers i 0)) 32 tt i h)
+
+pub middle-is : (i : ℕ) → i < 50 → Factor (i * 2 ^ 22) (getD powers (32 + i) 0)
+unfolding powers power? squared-up squared-down
+middle-is i h = is-power 10 22 i _ refl (at (λ i. power? 10 i (getD powers (32 + i) 0)) 50 tt i h)
+
+pub fine-is : (i : ℕ) → i < 61 → Factor (i * 2 ^ 17) (getD powers (82 + i) 0)
+unfolding powers power? squared-up squared-down
+fine-is i h = is-power 15 17 i _ refl (at (λ i. power? 15 i (getD powers (82 + i) 0)) 61 tt i h)
+
+pub middle-takes : (i : ℕ) → i < 50 → Takes 1477 i second-left (getD powers (32 + i) 0)
+unfolding powers takes?
+middle-takes i h = is-taking 1477 i second-left _ (at (λ i. takes? 1477 i second-left (getD powers (32 + i) 0)) 50 tt i h)
+
+pub fine-takes : (i : ℕ) → i < 61 → Takes 47274 i third-left (getD powers (82 + i) 0)
+unfolding powers takes?
+fine-takes i h = is-taking 47274 i third-left _ (at (λ i. takes? 47274 i third-left (getD powers (82 + i) 0)) 61 tt i h)
 
 pub entry-fits : (j : ℕ) → j < 143 → getD powers j 0 < 2 ^ 64
 unfolding powers
 entry-fits j h = ltb→lt _ _ (at (λ j. ltb (getD powers j 0) (2 ^ 64)) 143 tt j h)
 
--- The entries in 2^32nds of the exponent.
-pub record Factor (e d : ℕ) : Type 0 where
-  pub low : 2 ^ 63 ≤ d
-  pub high : d < 2 ^ 64
-  pub most : AtMost d (2 ^ 63) e (2 ^ 32)
-  pub least : AtLeast (d + 1) (2 ^ 63) e (2 ^ 32)
-
-pub coarse-is : (i : ℕ) → i < 32 → Factor (i * 2 ^ 27) (getD powers i 0)
-unfolding right
-coarse-is i h =
-    let d = getD powers i 0 in
-    let f = is-power 5 i d (rw (lt-ltb i 32 h) at (all-right i (omega arith))) in
-    record { low = f .low; high = f .high; most = most-finer (2 ^ 27) (f .most); least = least-finer (2 ^ 27) (f .least) }
-
-pub middle-is : (i : ℕ) → i < 50 → Factor (i * 2 ^ 22) (getD powers (32 + i) 0) × Takes 1477 i 11711000000000000 (getD powers (32 + i) 0)
-unfolding right
-middle-is i h =
-    let d = getD powers (32 + i) 0 in
-    let e : 32 + i - 32 ≡ i = omega arith in
-    let t : T (both (takes? 1477 i 11711000000000000 d) (power? 10 i d (d * 2 ^ 33) ((d + 1) * 2 ^ 33))) =
-    rw (le-ltb (32 + i) 32 (omega arith), lt-ltb (32 + i) 82 (omega arith), e) at (all-right (32 + i) (omega arith)) in
-    let f = is-power 10 i d (both-right (takes? 1477 i 11711000000000000 d) (power? 10 i d (d * 2 ^ 33) ((d + 1) * 2 ^ 33)) t) in (
-      record { low = f .low; high = f .high; most = most-finer (2 ^ 22) (f .most); least = least-finer (2 ^ 22) (f .least) },
-      is-taking 1477 i 11711000000000000 d (both-left (takes? 1477 i 11711000000000000 d) (power? 10 i d (d * 2 ^ 33) ((d + 1) * 2 ^ 33)) t),
-    )
-
-pub fine-is : (i : ℕ) → i < 61 → Factor (i * 2 ^ 17) (getD powers (82 + i) 0) × Takes 47274 i 203360000000000 (getD powers (82 + i) 0)
-unfolding right
-fine-is i h =
-    let d = getD powers (82 + i) 0 in
-    let e : 82 + i - 82 ≡ i = omega arith in
-    let t : T (both (takes? 47274 i 203360000000000 d) (power? 15 i d (d * 2 ^ 33) ((d + 1) * 2 ^ 33))) =
-    rw (le-ltb (82 + i) 32 (omega arith), le-ltb (82 + i) 82 (omega arith), e) at (all-right (82 + i) (omega arith)) in
-    let f = is-power 15 i d (both-right (takes? 47274 i 203360000000000 d) (power? 15 i d (d * 2 ^ 33) ((d + 1) * 2 ^ 33)) t) in (
-      record { low = f .low; high = f .high; most = most-finer (2 ^ 17) (f .most); least = least-finer (2 ^ 17) (f .least) },
-      is-taking 47274 i 203360000000000 d (both-left (takes? 47274 i 203360000000000 d) (power? 15 i d (d * 2 ^ 33) ((d + 1) * 2 ^ 33)) t),
-    )
-
 -- The first digit's, for a number from (64 + i)/64 to (65 + i)/64.
 pub record Starts (i c d : ℕ) : Type 0 where
   pub few : c < 32
   pub up : (65 + i) * d ≤ 2 ^ 70
-  pub down : 2 ^ 70 ≤ (64 + i) * d + 311470000000000000 * 2 ^ 7
+  pub down : 2 ^ 70 ≤ (64 + i) * d + first-left * 2 ^ 7
 
-starts? : (i c : ℕ) → Bool
-starts? i c = both (ltb c 32) (both (leb ((65 + i) * getD powers c 0) (2 ^ 70)) (leb (2 ^ 70) ((64 + i) * getD powers c 0 + 311470000000000000 * 2 ^ 7)))
+starts? : (i c d : ℕ) → Bool
+starts? i c d = both (ltb c 32) (both (leb ((65 + i) * d) (2 ^ 70)) (leb (2 ^ 70) ((64 + i) * d + first-left * 2 ^ 7)))
 
-all-start : (i : ℕ) → i < 64 → T (starts? i (first-digit i))
-unfolding first-digit powers starts?
-all-start i h = at (λ i. starts? i (first-digit i)) 64 tt i h
+is-start : (i c d : ℕ) → T (starts? i c d) → Starts i c d
+unfolding starts?
+is-start i c d t =
+    let a = ltb c 32 in
+    let b = leb ((65 + i) * d) (2 ^ 70) in
+    let e = leb (2 ^ 70) ((64 + i) * d + first-left * 2 ^ 7) in
+    let r = both-right a (both b e) t in
+    record { few = ltb→lt _ _ (both-left a (both b e) t); up = leb→le _ _ (both-left b e r); down = leb→le _ _ (both-right b e r) }
 
 pub start-is : (i : ℕ) → i < 64 → Starts i (first-digit i) (getD powers (first-digit i) 0)
-unfolding starts?
-start-is i h = go (first-digit i) (all-start i h)
-  where
-    go : (c : ℕ) → T (starts? i c) → Starts i c (getD powers c 0)
-    go c t =
-        let a = ltb c 32 in
-        let b = leb ((65 + i) * getD powers c 0) (2 ^ 70) in
-        let e = leb (2 ^ 70) ((64 + i) * getD powers c 0 + 311470000000000000 * 2 ^ 7) in
-        let r = both-right a (both b e) t in
-        record { few = ltb→lt _ _ (both-left a (both b e) t); up = leb→le _ _ (both-left b e r); down = leb→le _ _ (both-right b e r) }
+unfolding first-digit powers starts?
+start-is i h = is-start i _ _ (at (λ i. starts? i (first-digit i) (getD powers (first-digit i) 0)) 64 tt i h)
 
 -- ── The straight line ───────────────────────────────────────────────────────────────────────
 
 -- One part of the exponent, 2^(1 / 2^32), from below and from above.
-part-most : AtMost (2 ^ 64 + 2977044471) (2 ^ 64) 1 (2 ^ 32)
+part-most : AtMost (2 ^ 64 + slope) (2 ^ 64) 1 (2 ^ 32)
 unfolding squared-up
 part-most =
-    most-down {t = 2 ^ 96 + 2977044471 * 2 ^ 32} {u = 2 ^ 96} (lit≤ tt) (lit≤ tt) (up-most (2 ^ 96) 32 (2 ^ 96 + 2977044471 * 2 ^ 32) 1 (lit≤ tt) (lit≤ tt))
+    most-down {t = 2 ^ 96 + slope * 2 ^ 32} {u = 2 ^ 96} (lit≤ tt) (lit≤ tt) (up-most (2 ^ 96) 32 (2 ^ 96 + slope * 2 ^ 32) 1 (lit≤ tt) (lit≤ tt))
 
 part-least : AtLeast (2 ^ 50) (2 ^ 50 - 181705) 1 (2 ^ 32)
 unfolding squared-down
@@ -153,20 +134,20 @@ part-least =
     least-up {t = 2 ^ 96} {u = 2 ^ 96 - 181705 * 2 ^ 46} (lit≤ tt) (lit≤ tt) (down-least (2 ^ 96 - 181705 * 2 ^ 46) 32 (2 ^ 96) 1 (lit≤ tt) (lit≤ tt))
 
 -- g parts of it, where those are few.
-pub line-most : (g : ℕ) → AtMost (2 ^ 64 + g * 2977044471) (2 ^ 64) g (2 ^ 32)
-line-most g = most-line 2977044471 g (lit≤ tt) part-most
+pub line-most : (g : ℕ) → AtMost (2 ^ 64 + g * slope) (2 ^ 64) g (2 ^ 32)
+line-most g = most-line slope g (lit≤ tt) part-most
 
-line-part : (g x : ℕ) → g ≤ 131071 → g * (2977044471 * 262138) ≤ x + 2 ^ 32 * 262138 → g * (2 ^ 32 * 181705) + 2 ^ 40 ≤ x + 2 ^ 52
+line-part : (g x : ℕ) → g ≤ 131071 → g * (slope * 262138) ≤ x + 2 ^ 32 * 262138 → g * (2 ^ 32 * 181705) + 2 ^ 40 ≤ x + 2 ^ 52
 line-part g x top h = omega arith
 
 line-sum : (d w x : ℕ) → w + d ≡ 2 ^ 82 → d + 2 ^ 40 ≤ x + 2 ^ 52 → 2 ^ 82 + 2 ^ 40 ≤ w + x + 2 ^ 52
 line-sum d w x e h = omega arith
 
-slack : (g y z : ℕ) → g < 2 ^ 17 → z + g * 181705 ≡ 2 ^ 50 → g * 2977044471 < (y + 1) * 2 ^ 32 → 2 ^ 112 ≤ (2 ^ 32 + y) * z * (2 ^ 30 + 1)
+slack : (g y z : ℕ) → g < 2 ^ 17 → z + g * 181705 ≡ 2 ^ 50 → g * slope < (y + 1) * 2 ^ 32 → 2 ^ 112 ≤ (2 ^ 32 + y) * z * (2 ^ 30 + 1)
 slack g y z small e up =
     let top : g ≤ 131071 = omega arith in
     let b : y * (2 ^ 32 * 262138) ≤ y * z = mul-le-mul-left y (omega arith) in
-    let c : g * (2977044471 * 262138) ≤ y * (2 ^ 32 * 262138) + 2 ^ 32 * 262138 = omega arith in
+    let c : g * (slope * 262138) ≤ y * (2 ^ 32 * 262138) + 2 ^ 32 * 262138 = omega arith in
     let a : 2 ^ 82 + 2 ^ 40 ≤ 2 ^ 32 * z + y * z + 2 ^ 52 = line-sum (g * (2 ^ 32 * 181705)) (2 ^ 32 * z) (y * z) (omega arith) (line-part g (y * z) top (le-trans c (omega arith))) in
     grown ((2 ^ 32 + y) * z) (omega arith)
   where
@@ -176,9 +157,9 @@ slack g y z small e up =
 coarser : (x y : ℕ) → y * 2 ^ 32 ≤ x → (2 ^ 32 + y) * 2 ^ 32 ≤ 2 ^ 64 + x
 coarser x y h = omega arith
 
-pub line-least : (g : ℕ) → g < 2 ^ 17 → AtLeast ((2 ^ 64 + g * 2977044471) * (2 ^ 30 + 1)) (2 ^ 64 * 2 ^ 30) g (2 ^ 32)
+pub line-least : (g : ℕ) → g < 2 ^ 17 → AtLeast ((2 ^ 64 + g * slope) * (2 ^ 30 + 1)) (2 ^ 64 * 2 ^ 30) g (2 ^ 32)
 line-least g small =
-    let x = g * 2977044471 in
+    let x = g * slope in
     let y = x / 2 ^ 32 in
     let z = 2 ^ 50 - g * 181705 in
     let e : z + g * 181705 ≡ 2 ^ 50 = omega arith in
@@ -192,7 +173,7 @@ line-least g small =
 
 -- Two units are more than what one rounding to 32 bits loses, and those after it; eight are less than 23 units of 2^-34.
 pub loss-most : AtMost ((2 ^ 32 + 1) * (2 ^ 61 + 1) ^ 6) (2 ^ 32 * (2 ^ 61) ^ 6) 2 (2 ^ 32)
-loss-most = most-down {t = 2 ^ 64 + 2 * 2977044471} {u = 2 ^ 64} (lit≤ tt) (lit≤ tt) (line-most 2)
+loss-most = most-down {t = 2 ^ 64 + 2 * slope} {u = 2 ^ 64} (lit≤ tt) (lit≤ tt) (line-most 2)
 
 pub eight-least : AtLeast (2 ^ 34 + 23) (2 ^ 34) 8 (2 ^ 32)
 eight-least =
@@ -205,9 +186,9 @@ unfolding squared-down
 finer-least =
     least-up {t = 2 ^ 96} {u = 2 ^ 96 - 2977044472 * 2 ^ 32} (lit≤ tt) (lit≤ tt) (down-least (2 ^ 96 - 2977044472 * 2 ^ 32) 32 (2 ^ 96) 1 (lit≤ tt) (lit≤ tt))
 
-pub rest-least : (w t r : ℕ) → 0 < t → w + t ≡ 2 ^ 63 → r * 2 ^ 43 ≤ w / 2 ^ 20 * 6196328018 → AtLeast (2 ^ 63) t r (2 ^ 32)
+pub rest-least : (w t r : ℕ) → 0 < t → w + t ≡ 2 ^ 63 → r * 2 ^ 43 ≤ w / 2 ^ 20 * inverse-slope → AtLeast (2 ^ 63) t r (2 ^ 32)
 rest-least w t r pos e h =
-    let a : r * 2 ^ 63 ≤ w * 6196328018 = omega arith in
+    let a : r * 2 ^ 63 ≤ w * inverse-slope = omega arith in
     let b : r * 2977044472 ≤ 2 * w = omega (arith, a) in
     let y = 2 ^ 64 - r * 2977044472 in
     let y-is : y + r * 2977044472 ≡ 2 ^ 64 = omega arith in
@@ -218,24 +199,24 @@ rest-least w t r pos e h =
     doubled : (t y : ℕ) → 2 * t ≤ y → 2 ^ 64 * t ≤ 2 ^ 63 * y
     doubled t y h = omega arith
 
-rest-few : (w r : ℕ) → w ≤ 203400000000000 → r * 2 ^ 43 ≤ w / 2 ^ 20 * 6196328018 → r ≤ 136700
+rest-few : (w r : ℕ) → w ≤ third-left + 2 ^ 32 + 2 → r * 2 ^ 43 ≤ w / 2 ^ 20 * inverse-slope → r ≤ 136700
 rest-few w r small h = omega arith
 
-rest-enough : (w r : ℕ) → r ≤ 136700 → w * 6196328018 < (r + 1) * 2 ^ 63 + 2 ^ 20 * 6196328018 → w ≤ (r + 5) * 1488489409
+rest-enough : (w r : ℕ) → r ≤ 136700 → w * inverse-slope < (r + 1) * 2 ^ 63 + 2 ^ 20 * inverse-slope → w ≤ (r + short) * 1488489409
 rest-enough w r few h = omega arith
 
 rest-over : (z w t u x : ℕ) → w + t ≡ u → z * w ≤ x * t → u * z ≤ (z + x) * t
 rest-over z w t u x e h = omega (arith, ap (λ (k : ℕ). z * k) e)
 
-pub rest-most : (w t r : ℕ) → w ≤ 203400000000000 → w + t ≡ 2 ^ 63 → r * 2 ^ 43 ≤ w / 2 ^ 20 * 6196328018 → w / 2 ^ 20 * 6196328018 < (r + 1) * 2 ^ 43 → AtMost (2 ^ 63) t (r + 5) (2 ^ 32)
+pub rest-most : (w t r : ℕ) → w ≤ third-left + 2 ^ 32 + 2 → w + t ≡ 2 ^ 63 → r * 2 ^ 43 ≤ w / 2 ^ 20 * inverse-slope → w / 2 ^ 20 * inverse-slope < (r + 1) * 2 ^ 43 → AtMost (2 ^ 63) t (r + short) (2 ^ 32)
 rest-most w t r small e down up =
-    let a : w * 6196328018 < (r + 1) * 2 ^ 63 + 2 ^ 20 * 6196328018 = wider w r up in
-    let b : w ≤ (r + 5) * 1488489409 = rest-enough w r (rest-few w r small down) a in
+    let a : w * inverse-slope < (r + 1) * 2 ^ 63 + 2 ^ 20 * inverse-slope = wider w r up in
+    let b : w ≤ (r + short) * 1488489409 = rest-enough w r (rest-few w r small down) a in
     let low : 9223168636854775808 ≤ t = omega arith in
-    let c : 2 ^ 64 * w ≤ 2 ^ 64 * ((r + 5) * 1488489409) = mul-le-mul-left (2 ^ 64) b in
-    let d : (r + 5) * (2 ^ 64 * 1488489409) ≤ (r + 5) * (2977044471 * 9223168636854775808) = mul-le-mul-left (r + 5) (lit≤ tt) in
-    let f : (r + 5) * 2977044471 * 9223168636854775808 ≤ (r + 5) * 2977044471 * t = mul-le-mul-left ((r + 5) * 2977044471) low in
-    most-down (lit≤ tt) (rest-over (2 ^ 64) w t (2 ^ 63) ((r + 5) * 2977044471) e (le-trans c (le-trans (le-of-eq (omega arith)) (le-trans d (le-trans (le-of-eq (omega arith)) f))))) (line-most (r + 5))
+    let c : 2 ^ 64 * w ≤ 2 ^ 64 * ((r + short) * 1488489409) = mul-le-mul-left (2 ^ 64) b in
+    let d : (r + short) * (2 ^ 64 * 1488489409) ≤ (r + short) * (slope * 9223168636854775808) = mul-le-mul-left (r + short) (lit≤ tt) in
+    let f : (r + short) * slope * 9223168636854775808 ≤ (r + short) * slope * t = mul-le-mul-left ((r + short) * slope) low in
+    most-down (lit≤ tt) (rest-over (2 ^ 64) w t (2 ^ 63) ((r + short) * slope) e (le-trans c (le-trans (le-of-eq (omega arith)) (le-trans d (le-trans (le-of-eq (omega arith)) f))))) (line-most (r + short))
   where
-    wider : (w r : ℕ) → w / 2 ^ 20 * 6196328018 < (r + 1) * 2 ^ 43 → w * 6196328018 < (r + 1) * 2 ^ 63 + 2 ^ 20 * 6196328018
+    wider : (w r : ℕ) → w / 2 ^ 20 * inverse-slope < (r + 1) * 2 ^ 43 → w * inverse-slope < (r + 1) * 2 ^ 63 + 2 ^ 20 * inverse-slope
     wider w r h = omega arith

@@ -8,7 +8,7 @@ use lib.Dec.{lit≤, lit<}
 use lib.Pow.{pow-add, pow-lt, pow-mono, pow-pos}
 use lib.Count.{leadingZeros, leading-top}
 use Rattle.formula.proofs.Wholes.{mul-pow, pow-mul}
-use Rattle.power.specs.Steps.{logarithm-of}
+use Rattle.power.specs.Steps.{short, logarithm-of}
 use Rattle.power.proofs.Twos.{Least, AtMost, AtLeast, most-mul, most-down, least-up, least-none, turn-least, turn-most}
 use Rattle.power.proofs.Entries.{loss-most}
 use Rattle.power.proofs.Climbs.{Complement, complement-is}
@@ -61,22 +61,22 @@ turn-order x v w u e = le-of-eq (omega (arith, ap (λ (k : ℕ). k * v) e))
 turn-order' : (x y v w u P Q : ℕ) → x * y * w ≡ u → u * P * (v * Q) ≤ x * (y * P) * (v * w * Q)
 turn-order' x y v w u P Q e = le-of-eq (omega (arith, ap (λ (k : ℕ). k * (v * P * Q)) e))
 
-log-lower : (v z g : ℕ) → 2 ^ 32 ≤ v → Placed v z → Complement (v * 2 ^ (z - 1)) g → AtLeast v (2 ^ 32) ((32 - z) * 2 ^ 32 - (g + 5)) (2 ^ 32)
+log-lower : (v z g : ℕ) → 2 ^ 32 ≤ v → Placed v z → Complement (v * 2 ^ (z - 1)) g → AtLeast v (2 ^ 32) ((32 - z) * 2 ^ 32 - (g + short)) (2 ^ 32)
 log-lower v z g low p lacks =
-    elim (decLe (g + 5) ((32 - z) * 2 ^ 32)) [
+    elim (decLe (g + short) ((32 - z) * 2 ^ 32)) [
       | yes h ↦
-          let a : AtMost (2 ^ (32 - z) * 2 ^ 32) v (g + 5) (2 ^ 32) = most-down (omega (arith, p .low)) (turn-order (2 ^ (32 - z) * 2 ^ 32) v (2 ^ (z - 1)) (2 ^ 63) (place-sum z (p .some) (p .few))) (lacks .most) in
-          turn-least (32 - z) ((32 - z) * 2 ^ 32 - (g + 5)) (2 ^ 32) (omega arith) a
-      | no h ↦ let e : (32 - z) * 2 ^ 32 - (g + 5) ≡ 0 = omega (arith, lt-of-not-le h) in rw e (least-up (lit≤ tt) (mul-le-mul-right (2 ^ 32) low) (least-none (2 ^ 32) (2 ^ 32)))
+          let a : AtMost (2 ^ (32 - z) * 2 ^ 32) v (g + short) (2 ^ 32) = most-down (omega (arith, p .low)) (turn-order (2 ^ (32 - z) * 2 ^ 32) v (2 ^ (z - 1)) (2 ^ 63) (place-sum z (p .some) (p .few))) (lacks .most) in
+          turn-least (32 - z) ((32 - z) * 2 ^ 32 - (g + short)) (2 ^ 32) (omega arith) a
+      | no h ↦ let e : (32 - z) * 2 ^ 32 - (g + short) ≡ 0 = omega (arith, lt-of-not-le h) in rw e (least-up (lit≤ tt) (mul-le-mul-right (2 ^ 32) low) (least-none (2 ^ 32) (2 ^ 32)))
     ]
 
-log-upper : (v z g : ℕ) → Placed v z → Complement (v * 2 ^ (z - 1)) g → AtMost (v * (2 ^ 61) ^ 6) (2 ^ 32 * (2 ^ 61 + 1) ^ 6) ((32 - z) * 2 ^ 32 - (g + 5) + 5) (2 ^ 32)
+log-upper : (v z g : ℕ) → Placed v z → Complement (v * 2 ^ (z - 1)) g → AtMost (v * (2 ^ 61) ^ 6) (2 ^ 32 * (2 ^ 61 + 1) ^ 6) ((32 - z) * 2 ^ 32 - (g + short) + short) (2 ^ 32)
 log-upper v z g p lacks =
     let P = (2 ^ 61 + 1) ^ 6 in
     let Q = (2 ^ 61) ^ 6 in
     let a : AtLeast (2 ^ (32 - z) * (2 ^ 32 * P)) (v * Q) g (2 ^ 32) =
     least-up (mul-pos (omega (arith, p .low)) (lit≤ tt)) (turn-order' (2 ^ (32 - z)) (2 ^ 32) v (2 ^ (z - 1)) (2 ^ 63) P Q (place-sum z (p .some) (p .few))) (lacks .least) in
-    turn-most (32 - z) ((32 - z) * 2 ^ 32 - (g + 5) + 5) (2 ^ 32 * P) (omega arith) a
+    turn-most (32 - z) ((32 - z) * 2 ^ 32 - (g + short) + short) (2 ^ 32 * P) (omega arith) a
 
 -- It fits a word where it is moved to.
 pub moved-up : (v z : ℕ) → Placed v z → v * 2 ^ (z - 1) % 2 ^ 64 ≡ v * 2 ^ (z - 1)
@@ -100,7 +100,7 @@ module _ (v : ℕ) (low : 2 ^ 32 ≤ v) (high : v ≤ 2 ^ 52) where
       let g = complement-is (v * 2 ^ (leadingZeros 64 v - 1)) (p .low) (p .high) in
       rw (g .2) (log-lower v (leadingZeros 64 v) (g .0) low p (g .1))
 
-  log-most : AtMost (v * (2 ^ 61) ^ 6) (2 ^ 32 * (2 ^ 61 + 1) ^ 6) (logarithm-of v + 5) (2 ^ 32)
+  log-most : AtMost (v * (2 ^ 61) ^ 6) (2 ^ 32 * (2 ^ 61 + 1) ^ 6) (logarithm-of v + short) (2 ^ 32)
   unfolding logarithm-of
   log-most =
       let p = placed v low high in
@@ -121,8 +121,8 @@ module _ {a b : ℕ} (some : 1 ≤ b) (from-one : b ≤ a) (moderate : a ≤ b *
   log-above =
       let v = a * 2 ^ 32 / b in
       let over : a * 2 ^ 32 < (v + 1) * b = omega (arith, lt-div-mul-add {a = a * 2 ^ 32} some) in
-      let e : logarithm-of v + 5 + 2 ≡ logarithm-of v + 7 = omega arith in
-      let h : AtMost a b (logarithm-of v + 5 + 2) (2 ^ 32) =
+      let e : logarithm-of v + short + 2 ≡ logarithm-of v + 7 = omega arith in
+      let h : AtMost a b (logarithm-of v + short + 2) (2 ^ 32) =
       most-down (lit≤ tt) (log-over a b v (2 ^ 32) ((2 ^ 61 + 1) ^ 6) ((2 ^ 61) ^ 6) over quotient-low) (most-mul (log-most v quotient-low quotient-high) loss-most) in
       rw e at h
 

@@ -6,7 +6,7 @@ use native.Mathlib.Omega.{arith}
 use lib.Dec.{lit≤}
 use lib.ListN.{getD}
 use Rattle.power.specs.Table.{powers}
-use Rattle.power.specs.Steps.{times-of, two-to}
+use Rattle.power.specs.Steps.{times-of, slope, two-to}
 use Rattle.power.proofs.Twos.{AtMost, AtLeast, most-mul, most-small}
 use Rattle.power.proofs.Entries.{Factor, coarse-is, middle-is, fine-is, line-most, line-least}
 use Rattle.power.proofs.Products.{grow-most, grow-least, Grown, entry-grown, times-grown}
@@ -29,8 +29,8 @@ lost = (2 ^ 61 + 1) ^ 5 * (2 ^ 30 + 1) * (2 ^ 61 + 1)
 abbrev pub whole : ℕ
 whole = (2 ^ 61) ^ 5 * 2 ^ 30 * 2 ^ 61
 
-line-is : {e : ℕ} (u g : ℕ) → g < 2 ^ 17 → 2 ^ 63 ≤ u → Grown (2 ^ 63) e 5 u → Raised lost whole (e + g) (u + u * (g * 2977044471) / 2 ^ 64)
-line-is {e} u g small low r = go (g * 2977044471) (line-most g) (line-least g small)
+line-is : {e : ℕ} (u g : ℕ) → g < 2 ^ 17 → 2 ^ 63 ≤ u → Grown (2 ^ 63) e 5 u → Raised lost whole (e + g) (u + u * (g * slope) / 2 ^ 64)
+line-is {e} u g small low r = go (g * slope) (line-most g) (line-least g small)
   where
     go : (x : ℕ) → AtMost (2 ^ 64 + x) (2 ^ 64) g (2 ^ 32) → AtLeast ((2 ^ 64 + x) * (2 ^ 30 + 1)) (2 ^ 64 * 2 ^ 30) g (2 ^ 32) → Raised lost whole (e + g) (u + u * x / 2 ^ 64)
     go x most least =
@@ -55,10 +55,10 @@ module _ (f : ℕ) (small : f < 2 ^ 32) where
   coarse = coarse-is (f / 2 ^ 27) (omega arith)
 
   middle : Factor (f / 2 ^ 22 % 32 * 2 ^ 22) (getD powers (32 + f / 2 ^ 22 % 32) 0)
-  middle = middle-is (f / 2 ^ 22 % 32) (omega arith) .0
+  middle = middle-is (f / 2 ^ 22 % 32) (omega arith)
 
   fine : Factor (f / 2 ^ 17 % 32 * 2 ^ 17) (getD powers (82 + f / 2 ^ 17 % 32) 0)
-  fine = fine-is (f / 2 ^ 17 % 32) (omega arith) .0
+  fine = fine-is (f / 2 ^ 17 % 32) (omega arith)
 
   first-low : 2 ^ 63 ≤ times-of (getD powers (f / 2 ^ 27) 0) (getD powers (32 + f / 2 ^ 22 % 32) 0)
   first-low = times-low _ _ (coarse .low) (middle .low)
