@@ -118,10 +118,10 @@ module _ (m : ℕ) (low : 2 ^ 62 ≤ m) (high : m < 2 ^ 63) where
   pub second-is : Reached m (second-left + 2 ^ 32 + 2) 4 (second-of m)
   second-is =
       let r = first-is m low high in
-      step-is (first-of m) 1477 32 (2 ^ 22) second-left (lit≤ tt) (omega arith) (lit≤ tt) r (middle-is _ (second-few _ (r .close))) (middle-takes _ (second-few _ (r .close)))
+      step-is (first-of m) _ _ _ second-left (lit≤ tt) (omega arith) (lit≤ tt) r (middle-is _ (second-few _ (r .close))) (middle-takes _ (second-few _ (r .close)))
 
   pub third-is : Reached m (third-left + 2 ^ 32 + 2) 6 (third-of m)
-  third-is = step-is (second-of m) 47274 82 (2 ^ 17) third-left (lit≤ tt) (omega arith) (lit≤ tt) second-is (fine-is _ (third-few _ (second-is .close))) (fine-takes _ (third-few _ (second-is .close)))
+  third-is = step-is (second-of m) _ _ _ third-left (lit≤ tt) (omega arith) (lit≤ tt) second-is (fine-is _ (third-few _ (second-is .close))) (fine-takes _ (third-few _ (second-is .close)))
 
   -- The exponent stays small.
   pub first-exponent : first-of m .exponent ≤ 2 ^ 32

@@ -6,6 +6,7 @@ use native.Mathlib.Omega.{arith}
 use lib.Dec.{lit≤}
 use lib.Pow.{pow-add, pow-mono, pow-pos}
 use Rattle.power.specs.Steps.{with-margin}
+use Rattle.power.specs.Power.{places, gap}
 use Rattle.power.proofs.Twos.{AtMost, AtLeast, most-mul, least-mul, most-down, least-up, most-whole, least-whole}
 use Rattle.power.proofs.Entries.{eight-least}
 use Rattle.power.proofs.Raising.{Raised, lost, whole}
@@ -34,7 +35,7 @@ upper-order r P x t hi Q s w h e =
     omega (arith, mul-le-mul-right (2 ^ 30) a)
 
 -- Both ends hold for the exponent e, of a whole part k and a rest f.
-module _ (e k j f r lo : ℕ) (e-is : f + k * 2 ^ 32 ≡ e) (sum : k + j ≡ 33) (raised : Raised lost whole f r) (down : lo * 2 ^ j ≤ r) (up : r ≤ (lo + 1) * 2 ^ j) where
+module _ (e k j f r lo : ℕ) (e-is : f + k * 2 ^ 32 ≡ e) (sum : k + j ≡ places) (raised : Raised lost whole f r) (down : lo * 2 ^ j ≤ r) (up : r ≤ (lo + 1) * 2 ^ j) where
   halves : 2 ^ k * 2 ^ j ≡ 2 ^ 33
   halves = sym (pow-add 2 k j) ∙ ap (λ (i : ℕ). 2 ^ i) sum
 
@@ -50,7 +51,7 @@ module _ (e k j f r lo : ℕ) (e-is : f + k * 2 ^ 32 ≡ e) (sum : k + j ≡ 33)
       rw (← e-is) (least-up (lit≤ tt) (upper-order r lost (2 ^ k) (2 ^ 34 + 23) hi whole (2 ^ 34) (2 ^ k * 2 ^ j) a halves) (least-mul (least-mul (raised .least) (least-whole k (2 ^ 32))) eight-least))
 
 -- The ends are near, and in their range.
-pub near-ends : (lo : ℕ) → 2 ^ 30 ≤ lo → with-margin lo .hi * 2 ^ 27 ≤ with-margin lo .lo * (2 ^ 27 + 1)
+pub near-ends : (lo : ℕ) → 2 ^ 30 ≤ lo → with-margin lo .hi * gap ≤ with-margin lo .lo * (gap + 1)
 unfolding with-margin
 near-ends lo low = omega arith
 

@@ -5,6 +5,10 @@ use Rattle.power.proofs.Raising.{first-fits, second-fits, two-to-fits}
 use Rattle.power.proofs.two_to.Statement.{statement}
 use Rattle.power.proofs.two_to.Tie as tie
 
+returns : tie.Need-returns
+unfolding two-to
+returns c = rw (c .high .ensures, c .before .times2 .ensures, c .before .before .before .times .ensures, c .before .before .before .before .before .entry .ensures, c .before .before .before .before .entry2 .ensures, c .before .before .entry3 .ensures)
+
 entry-requires : tie.Need-entry-requires
 entry-requires c κs = search needs
 
@@ -45,10 +49,6 @@ add-result c =
           rw (c .high .ensures, c .before .times2 .ensures, c .before .before .before .times .ensures, c .before .before .before .before .before .entry .ensures, c .before .before .before .before .entry2 .ensures, c .before .before .entry3 .ensures)
           (two-to-fits (at .args .f) (at .pre));
     }
-
-returns : tie.Need-returns
-unfolding two-to
-returns c = rw (c .high .ensures, c .before .times2 .ensures, c .before .before .before .times .ensures, c .before .before .before .before .before .entry .ensures, c .before .before .before .before .entry2 .ensures, c .before .before .entry3 .ensures)
 
 pub two-to-spec : {M : Type 1} → statement M
 two-to-spec =
