@@ -1,8 +1,13 @@
-// Cases for the number crates, with expectations worked out here: whole roots, roots of ratios and quotients exactly,
-// with integers of 128 bits and of as many as it takes; powers in doubles, whose error is far below the promised gap, and
-// powers of 1 exactly.
+// Cases for the number crates, with expectations worked out here in whole numbers: of 128 bits, of as many as it takes, or
+// for powers with a large denominator of 256 bits, rounded down and up (powers.rs). Nothing is decided in doubles.
 // Each kind of expectation is then falsified, and every case of it must be found wrong.
 // Usage: numbers RUNNER PROGRAM
+#[path = "power_cases.rs"]
+mod power_cases;
+#[path = "powers.rs"]
+mod powers;
+
+use powers::{agree, is_power, Tally, UNIT};
 use std::cmp::Ordering;
 use std::io::Write;
 use std::process::{Command, Stdio};
@@ -74,22 +79,35 @@ fn whole_root(n: u64, exponent: u32) -> u64 {
     low
 }
 
-// Units of a power.
-const UNIT: u64 = 1 << 30;
-
-// What can be asked. Of a ratio of 1, and of the next one above it, more is expected: these are kinds of their own.
-const KINDS: [&str; 8] = [
-    "square roots", "cube roots", "cube roots of ratios", "quotients", "powers", "cube roots of n/n", "powers of a/a", "powers of a/(a - 1)",
+// What can be asked, and how many of each there have to be. Of a ratio of 1, and of the next one above it, more is expected:
+// these are kinds of their own, and so is that the two powers agree.
+const KINDS: [(&str, u64); 13] = [
+    ("square roots", 10_000),
+    ("cube roots", 10_000),
+    ("cube roots of ratios", 10_000),
+    ("quotients of 10^6", 2_000),
+    ("quick powers", 50_000),
+    ("plain powers", 50_000),
+    ("quotients of 10^15", 10_000),
+    ("cube roots of n/n", 2_000),
+    ("quick powers of a/a", 10_000),
+    ("plain powers of a/a", 10_000),
+    ("quick powers of a/(a - 1)", 10_000),
+    ("plain powers of a/(a - 1)", 10_000),
+    ("quick powers against plain ones", 50_000),
 ];
+// Of each group of powers.
+const FEWEST_OF_GROUP: u64 = 5_000;
+const BOTH_WAYS: usize = 12;
 
 // The place in KINDS; None for what can't be asked.
 fn kind(case: &[u64; 5]) -> Option<usize> {
     match *case {
-        [3, n, d, ..] if n == d => Some(5),
-        [5, a, b, ..] if a == b => Some(6),
+        [3, n, d, ..] if n == d => Some(7),
+        [asked, a, b, ..] if (asked == 5 || asked == 6) && a == b => Some(asked as usize + 3),
         // To the power 0 that is 1 again.
-        [5, a, b, c, _] if a.wrapping_sub(b) == 1 && c > 0 => Some(7),
-        [asked, ..] if (1..=5).contains(&asked) => Some(asked as usize - 1),
+        [asked, a, b, c, _] if (asked == 5 || asked == 6) && a.wrapping_sub(b) == 1 && c > 0 => Some(asked as usize + 5),
+        [asked, ..] if (1..=7).contains(&asked) => Some(asked as usize - 1),
         _ => None,
     }
 }
@@ -104,7 +122,8 @@ fn is_inside(case: &[u64; 5]) -> bool {
         1 | 2 => true,
         3 => b > 0 && a < 1 << 40 && b as u128 <= 8 * a as u128,
         4 => b > 0 && b <= 1_000_000_000_000_000_000 && a < 1 << 43,
-        5 => b > 0 && b <= a && a < 1 << 32 && a as u128 <= (b as u128) << 20 && c < d && d < 1 << 24,
+        5 | 6 => powers::is_inside(a, b, c, d),
+        7 => b > 0 && b < 1 << 63 && (a as u128) < 9223 * b as u128,
         _ => false,
     }
 }
@@ -121,40 +140,54 @@ fn is_ratio_root(a: u64, b: u64, s: u64, low: u64, high: u64, shift: u64) -> boo
         && over(high - 1) == Ordering::Less
 }
 
-// Ends about (a/b)^(c/d), no farther apart than they may be.
-fn is_about_power(case: &[u64; 5], low: u64, high: u64, slip: bool) -> bool {
-    let [_, a, b, c, d] = *case;
-    let value = (a as f64 / b as f64).powf(c as f64 / d as f64) * UNIT as f64;
-    let slack = value * 1e-13;
-    low as f64 <= value + slack - slip as u64 as f64 * value
-        && value - slack <= high as f64
-        && high as u128 * (1 << 27) <= low as u128 * ((1 << 27) + 1)
+// n/d in units of 1/scale, rounded down and up.
+fn is_quotient(n: u64, d: u64, scale: u64, low: u64, high: u64, shift: u64) -> bool {
+    let (scaled, d) = (n as u128 * scale as u128, d as u128);
+    low as u128 == scaled / d + shift as u128 && high as u128 == (scaled + d - 1) / d
+}
+
+// None unless the line is these numbers and nothing else, each in its shortest writing.
+fn numbers_of(line: &str) -> Vec<u64> {
+    let numbers: Vec<u64> = line.split(' ').filter_map(|word| word.parse().ok()).collect();
+    let written: Vec<String> = numbers.iter().map(|number| number.to_string()).collect();
+    if written.join(" ") == line { numbers } else { Vec::new() }
 }
 
 // Whether a line answers its case; `slip` falsifies the expectation.
-fn verdict(case: &[u64; 5], line: &str, slip: bool) -> Result<(), String> {
+fn verdict(case: &[u64; 5], line: &str, slip: bool, tally: &mut Tally) -> Result<(), String> {
     let [_, a, b, _, _] = *case;
-    let numbers: Vec<u64> = line.split(' ').filter_map(|w| w.parse().ok()).collect();
     let shift = slip as u64;
     if !is_inside(case) {
         return if line == "-" { Ok(()) } else { Err(fail(case, line, "the numbers are outside the domain")) };
     }
-    let right = match (kind(case), &numbers[..]) {
+    let right = match (kind(case), &numbers_of(line)[..]) {
         (Some(0), [r]) => *r == whole_root(a, 2) + shift,
         (Some(1), [r]) => *r == whole_root(a, 3) + shift,
         (Some(2), [s, low, high]) => is_ratio_root(a, b, *s, *low, *high, shift),
-        (Some(3), [low, high]) => {
-            let n = a as u128 * 1_000_000;
-            *low as u128 == n / b as u128 + shift as u128 && *high as u128 == (n + b as u128 - 1) / b as u128
-        }
-        (Some(4), [low, high]) => is_about_power(case, *low, *high, slip),
-        (Some(5), [s, low, high]) => is_ratio_root(a, b, *s, *low, *high, 0) && [*low + shift, *high] == [*s, *s],
-        (Some(6), [low, high]) => [*low + shift, *high] == [UNIT, UNIT],
+        (Some(3), [low, high]) => is_quotient(a, b, 1_000_000, *low, *high, shift),
+        (Some(4), [low, high]) | (Some(5), [low, high]) => is_power(case, *low, *high, slip, tally),
+        (Some(6), [low, high]) => is_quotient(a, b, 1_000_000_000_000_000, *low, *high, shift),
+        (Some(7), [s, low, high]) => is_ratio_root(a, b, *s, *low, *high, 0) && [*low + shift, *high] == [*s, *s],
+        (Some(8), [low, high]) | (Some(9), [low, high]) => [*low, *high] == [UNIT + shift, UNIT],
         // However near to 1, it is above.
-        (Some(7), [low, high]) => is_about_power(case, *low, *high, false) && (*high > UNIT) != slip,
+        (Some(10), [low, high]) | (Some(11), [low, high]) if slip => is_power(case, *low, *high, slip, tally) || *high <= UNIT,
+        (Some(10), [low, high]) | (Some(11), [low, high]) => is_power(case, *low, *high, slip, tally) && *high > UNIT,
         _ => false,
     };
     if right { Ok(()) } else { Err(fail(case, line, "wrong")) }
+}
+
+// The quick and the plain answer to the same power stand one after the other. None where that isn't what is asked.
+fn verdict_on_both(all: &[[u64; 5]], lines: &[&str], place: usize, slip: bool) -> Option<Result<(), String>> {
+    let (case, after) = (all[place], *all.get(place + 1)?);
+    if case[0] != 5 || after[0] != 6 || case[1..] != after[1..] || !is_inside(&case) {
+        return None;
+    }
+    let agreed = match (&numbers_of(lines[place])[..], &numbers_of(lines[place + 1])[..]) {
+        ([low, high], [next_low, next_high]) => agree([*low, *high], [*next_low, *next_high], slip),
+        _ => false,
+    };
+    Some(if agreed { Ok(()) } else { Err(fail(&case, lines[place], &format!("the plain power is '{}'", lines[place + 1]))) })
 }
 
 fn cases() -> Vec<[u64; 5]> {
@@ -179,16 +212,12 @@ fn cases() -> Vec<[u64; 5]> {
         let (s, u) = (1 + random.up_to(8000), 1 + random.up_to(8000));
         all.push([3, s * s * s, u * u * u, 0, 0]);
         all.push([4, random.any_size(), random.any_size(), 0, 0]);
-        let b = 1 + random.up_to(600_000);
-        all.push([5, b + random.up_to(1 << 20), b, random.up_to(100_000), 100_000]);
-        all.push([5, random.any_size() % (1 << 33), random.any_size() % (1 << 20), random.any_size() % (1 << 25), random.any_size() % (1 << 25)]);
-        all.push([5, 100 + random.up_to(599_900), 1, 138_634, 300_000]);
     }
-    for k in [93, 95, 97, 100] {
-        all.push([5, 100, k, 1, 3]);
+    ratios_next_to_one(&mut random, &mut all);
+    quotients(&mut random, &mut all);
+    for asked in [0, 8, 9, 255, 256, 263, 1 << 32 | 5, 1 << 63 | 7, u64::MAX] {
+        all.extend(&[[asked, 1, 1, 0, 1], [asked, 2, 1, 1, 2]]);
     }
-    all.push([6, 1, 1, 1, 1]);
-    next_to_one(&mut random, &mut all);
     all
 }
 
@@ -199,27 +228,8 @@ fn about_powers_of_two(bits: u32) -> Vec<u64> {
     all
 }
 
-// Exponents p/q of every size, 0 and the greatest below 1 among them; 1 is none, and 2^24 no denominator.
-fn exponents(random: &mut Random) -> Vec<(u64, u64)> {
-    let last = (1 << 24) - 1;
-    let mut all = vec![(0, 1), (0, last), (1, last), (last - 1, last), (last - 2, last), (1, 2), (1, 3), (2, 9), (3, 20), (4, 5), (last, last), (0, last + 1)];
-    for _ in 0..4 {
-        let q = 1 + random.any_size() % last;
-        all.extend(&[(random.up_to(q - 1), q), (q - 1, q), (0, q), (1u64.min(q - 1), q)]);
-    }
-    all
-}
-
 // A ratio of 1 in every writing, and the ratios next to it.
-fn next_to_one(random: &mut Random, all: &mut Vec<[u64; 5]>) {
-    let mut bases = about_powers_of_two(32);
-    bases.extend((0..400).map(|_| 1 + random.any_size() % 0xffff_ffff));
-    for a in bases {
-        for (p, q) in exponents(random) {
-            all.push([5, a, a, p, q]);
-            all.push([5, a, a - 1, p, q]);
-        }
-    }
+fn ratios_next_to_one(random: &mut Random, all: &mut Vec<[u64; 5]>) {
     let mut numbers = about_powers_of_two(40);
     numbers.extend((0..4000).map(|_| 1 + random.any_size() % ((1 << 40) - 1)));
     for n in numbers {
@@ -227,47 +237,135 @@ fn next_to_one(random: &mut Random, all: &mut Vec<[u64; 5]>) {
     }
 }
 
+// The n below d with n * 10^15 one below a multiple of d; None where d has a factor 2 or 5, and so none has.
+fn with_greatest_rest(d: u64) -> Option<u64> {
+    // Euclid's steps on d and 10^15: each rest is its factor times 10^15, but for a multiple of d.
+    let (mut rests, mut factors) = ((d as i128, 1_000_000_000_000_000 % d as i128), (0i128, 1i128));
+    while rests.1 > 0 {
+        let times = rests.0 / rests.1;
+        rests = (rests.1, rests.0 - times * rests.1);
+        factors = (factors.1, factors.0 - times * factors.1);
+    }
+    if rests.0 == 1 { Some((-factors.0).rem_euclid(d as i128) as u64) } else { None }
+}
+
+// Denominators of every size: about powers of 2 and of 10, with five last digits 0 or 9, the greatest, and those where a
+// rest times 10^5, 10^10 or 10^15 comes to fill a word.
+fn denominators(random: &mut Random) -> Vec<u64> {
+    let mut all = about_powers_of_two(63);
+    let tens: Vec<u64> = (0..19).map(|digits| 10u64.pow(digits)).collect();
+    let words = [5, 10, 15].iter().flat_map(|digits| vec![(1u64 << 63) / 10u64.pow(*digits), u64::MAX / 10u64.pow(*digits)]);
+    for middle in tens.into_iter().chain(words.collect::<Vec<_>>()) {
+        all.extend(middle.max(4) - 3..middle + 4);
+    }
+    all.extend(0..41);
+    for _ in 0..600 {
+        let head = random.any_size() % 92_233_720_368_547;
+        all.extend(&[head * 100_000, head * 100_000 + 99_999, random.any_size(), random.any_size() >> 1]);
+        // Divides a power of 10.
+        all.push((1 << random.up_to(15)) * 5u64.pow(random.up_to(15) as u32));
+    }
+    all.extend((0..40).map(|below| (1 << 63) - 1 - below));
+    all
+}
+
+// Numerators at both edges of the domain, multiples of d, and those that leave a rest of 0, 1 or d - 1.
+fn quotients(random: &mut Random, all: &mut Vec<[u64; 5]>) {
+    for d in denominators(random) {
+        let times = random.up_to(9222) as u128;
+        let wide = d as u128;
+        let mut numerators = vec![0, 1, wide - 1.min(wide), wide, wide + 1, times * wide, times * wide + 1, random.any_size() as u128];
+        numerators.extend((0..4).map(|below| (9223 * wide + 2).max(below) - below));
+        numerators.push(random.next() as u128 % (9223 * wide).max(1));
+        if let Some(n) = if d > 1 { with_greatest_rest(d) } else { None } {
+            numerators.extend(&[n as u128, n as u128 + times * wide, wide - n as u128, wide - n as u128 + times * wide]);
+        }
+        // The words that it isn't about may be any.
+        let (c, e) = (random.any_size(), random.any_size());
+        all.extend(numerators.iter().filter(|n| **n <= u64::MAX as u128).map(|n| [7, *n as u64, d, c, e]));
+        all.push([7, u64::MAX, d, c, e]);
+    }
+}
+
 // How many of each kind lie in the domain, and of how many kinds a falsified expectation goes through.
-fn by_kind(all: &[[u64; 5]], lines: &[&str]) -> ([u64; 8], usize) {
-    let (mut counts, mut uncaught) = ([0; 8], [false; 8]);
-    for (case, line) in all.iter().zip(lines).filter(|(case, _)| is_inside(case)) {
-        let place = kind(case).expect("what is inside can be asked");
-        counts[place] += 1;
-        uncaught[place] |= verdict(case, line, true).is_ok();
+fn by_kind(all: &[[u64; 5]], lines: &[&str], tally: &mut Tally) -> ([(&'static str, u64); 13], usize) {
+    let (mut counts, mut uncaught) = (KINDS, [false; 13]);
+    counts.iter_mut().for_each(|kind| kind.1 = 0);
+    for (place, (case, line)) in all.iter().zip(lines).enumerate().filter(|(_, (case, _))| is_inside(case)) {
+        let of = kind(case).expect("what is inside can be asked");
+        counts[of].1 += 1;
+        uncaught[of] |= verdict(case, line, true, tally).is_ok();
+        if let Some(both) = verdict_on_both(all, lines, place, true) {
+            counts[BOTH_WAYS].1 += 1;
+            uncaught[BOTH_WAYS] |= both.is_ok();
+        }
     }
     (counts, uncaught.iter().filter(|kind| **kind).count())
 }
 
-fn main() {
-    let arguments: Vec<String> = std::env::args().collect();
-    let all = cases();
+// What is wrong with the lines, and how the powers were decided.
+fn complaints(all: &[[u64; 5]], lines: &[&str]) -> (Vec<String>, Tally) {
+    let (mut wrong, mut tally) = (Vec::new(), Tally::default());
+    for (place, (case, line)) in all.iter().zip(lines).enumerate() {
+        wrong.extend(verdict(case, line, false, &mut tally).err());
+        wrong.extend(verdict_on_both(all, lines, place, false).and_then(|both| both.err()));
+    }
+    (wrong, tally)
+}
+
+fn answers(runner: &str, program: &str, all: &[[u64; 5]]) -> String {
     let bytes: Vec<u8> = all.iter().flatten().flat_map(|w| w.to_le_bytes()).collect();
-    let mut child = Command::new(&arguments[1]).arg(&arguments[2]).stdin(Stdio::piped()).stdout(Stdio::piped()).spawn().expect("the program runs");
+    let mut child = Command::new(runner).arg(program).stdin(Stdio::piped()).stdout(Stdio::piped()).spawn().expect("the program runs");
     let mut input = child.stdin.take().unwrap();
     let feeder = std::thread::spawn(move || input.write_all(&bytes));
     let output = child.wait_with_output().expect("the program ends");
     feeder.join().unwrap().expect("the program reads all");
-    let text = String::from_utf8(output.stdout).expect("plain text");
+    assert!(output.status.success(), "the program ends with {}", output.status);
+    String::from_utf8(output.stdout).expect("plain text")
+}
+
+// The cases of every kind. Those of powers are asked both ways, and how many lie in the domain is counted by group.
+fn all_cases() -> (Vec<[u64; 5]>, Vec<(&'static str, u64)>) {
+    let mut all = cases();
+    let mut counts = Vec::new();
+    for (name, group) in power_cases::groups(&mut Random(0x6a09_e667_f3bc_c908)) {
+        let inside = group.iter().filter(|[a, b, p, q]| powers::is_inside(*a, *b, *p, *q)).count();
+        counts.push((name, inside as u64));
+        all.extend(group.iter().flat_map(|[a, b, p, q]| vec![[5, *a, *b, *p, *q], [6, *a, *b, *p, *q]]));
+    }
+    (all, counts)
+}
+
+fn listed(counts: &[(&'static str, u64)]) -> String {
+    counts.iter().map(|(what, count)| format!("{} {}", count, what)).collect::<Vec<_>>().join(", ")
+}
+
+fn main() {
+    let arguments: Vec<String> = std::env::args().collect();
+    let (all, groups) = all_cases();
+    let text = answers(&arguments[1], &arguments[2], &all);
     let lines: Vec<&str> = text.lines().collect();
     if lines.len() != all.len() {
         eprintln!("numbers: {} cases, but {} lines", all.len(), lines.len());
         std::process::exit(1);
     }
-    let mut wrong = 0;
-    for (case, line) in all.iter().zip(&lines) {
-        if let Err(why) = verdict(case, line, false) {
-            wrong += 1;
-            if wrong <= 10 {
-                eprintln!("numbers: {}", why);
-            }
-        }
+    let (wrong, tally) = complaints(&all, &lines);
+    for why in wrong.iter().take(10) {
+        eprintln!("numbers: {}", why);
     }
-    let (counts, uncaught) = by_kind(&all, &lines);
-    println!("numbers: {}", counts.iter().zip(&KINDS).map(|(count, what)| format!("{} {}", count, what)).collect::<Vec<_>>().join(", "));
-    println!("numbers: {} cases, {} wrong, {} kinds of falsified expectation uncaught", all.len(), wrong, uncaught);
-    let few = counts.iter().any(|count| *count < 2000);
+    let mut falsified = Tally::default();
+    let (counts, uncaught) = by_kind(&all, &lines, &mut falsified);
+    let undecided = tally.undecided + falsified.undecided;
+    println!("numbers: {}", listed(&counts));
+    println!("numbers: powers that are asked both ways: {}", listed(&groups));
+    println!(
+        "numbers: {} ends of powers compared in whole numbers written out, {} in rounded ones, {} undecided; {} are the power itself",
+        tally.written_out, tally.rounded, undecided, tally.equal
+    );
+    println!("numbers: {} cases, {} wrong, {} kinds of falsified expectation uncaught", all.len(), wrong.len(), uncaught);
+    let few = counts.iter().zip(&KINDS).any(|(is, least)| is.1 < least.1) || groups.iter().any(|group| group.1 < FEWEST_OF_GROUP);
     if few {
-        eprintln!("numbers: a kind hardly occurs");
+        eprintln!("numbers: a kind or group has too few cases");
     }
-    std::process::exit((wrong > 0 || uncaught > 0 || few) as i32);
+    std::process::exit((!wrong.is_empty() || undecided > 0 || uncaught > 0 || few) as i32);
 }
