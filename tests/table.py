@@ -1,14 +1,14 @@
 #!/usr/bin/env python3
-"""The table of powers of 2 that `power` takes logarithms and powers from: its numbers as a list (specs/Table.antt), as a function
-(src/table.rt), and the function's proof, an arm for an entry. Every number is made of whole numbers alone, by square roots.
-   tests/table.py            writes the three files
+"""The table of powers of 2 that `power` takes logarithms and powers from: its numbers as lists (specs/Table.antt), as functions
+(src/table.rt), and the functions' proofs, an arm for an entry. Every number is made of whole numbers alone, by square roots.
+   tests/table.py            writes these files
    tests/table.py --check    says whether they are what it would write"""
 import math, os, sys
 
 ROOT = os.path.dirname(os.path.dirname(os.path.abspath(__file__)))
 ROOM = "crates/power"
 UNIT = 63  # an entry counts 2^-63
-PARTS = [(5, 32), (10, 50), (15, 61)]  # 2^(i / 2^k), for so many i
+PARTS = [("coarse", 5, 32), ("middle", 10, 50), ("fine", 15, 61)]  # 2^(i / 2^k), for so many i
 GUARD = 200  # bits after those of the unit, of which the roundings reach the last 20 at most
 
 
@@ -36,58 +36,65 @@ def lines(entries, separator, width=5):
     return separator.join(" ∷ ".join(map(str, row)) for row in rows)
 
 
-def listed(entries):
-    return f"""-- The table of powers of 2, as tests/table.py makes it. Assumes nothing.
-use Prim.Native.Nat.{{ℕ}}
-use mathlib.Core.List.{{List, [], _∷_}}
-
--- Powers of 2 by parts of the exponent, rounded down to units of 2^-63: the entries from 0 on are 2^(i/32), those from 32 on
--- 2^(i/1024), those from 82 on 2^(i/32768), with i from 0.
-unfoldable pub powers : List ℕ
-powers =
+def listed(parts):
+    """The three parts as lists."""
+    text = """-- The table of powers of 2, as tests/table.py makes it. Assumes nothing.
+use Prim.Native.Nat.{ℕ}
+use mathlib.Core.List.{List, [], _∷_}
+"""
+    for name, k, entries in parts:
+        text += f"""
+-- 2^(i/{2 ** k}), rounded down to units of 2^-63, for i from 0.
+unfoldable pub {name}s : List ℕ
+{name}s =
     {lines(entries, chr(10) + "    ∷ ")} ∷ []
 """
+    return text
 
 
-def function(entries):
-    arms = "".join(f"        {at} => {entry},\n" for at, entry in enumerate(entries[:-1]))
-    return f"""// The table of powers of 2, as tests/table.py makes it. A `match` is compiled to a table in memory that is only read; an array would be laid
+def functions(parts):
+    text = """// The table of powers of 2, as tests/table.py makes it. A `match` is compiled to a table in memory that is only read; an array would be laid
 // on the stack at each call.
-ghost use mathlib.Core.Path.{{_≡_}};
-ghost use Prim.Native.Nat.{{_<_}};
-ghost use lib.ListN.{{getD}};
-ghost use Rattle.power.specs.Table.{{powers}};
-
-pub(crate) fn entry(i: u64) -> u64
+ghost use mathlib.Core.Path.{_≡_};
+ghost use Prim.Native.Nat.{_<_};
+ghost use lib.ListN.{getD};
+"""
+    text += f"ghost use Rattle.power.specs.Table.{{{', '.join(name + 's' for name, _, _ in parts)}}};\n"
+    for name, k, entries in parts:
+        arms = "".join(f"        {at} => {entry},\n" for at, entry in enumerate(entries[:-1]))
+        text += f"""
+// 2^(i/{2 ** k}), in units of 2^-63.
+pub(crate) fn {name}(i: u64) -> u64
     requires {{ ⌜ i < {len(entries)} ⌝ }}
-    ensures {{ λ r. ⌜ r ≡ getD powers i 0 ⌝ }}
+    ensures {{ λ r. ⌜ r ≡ getD {name}s i 0 ⌝ }}
 {{
     match i {{
 {arms}        _ => {entries[-1]},
     }}
 }}
 """
+    return text
 
 
-def proof(entries):
+def proof(name, entries):
     last = len(entries) - 1
     arms = " ".join(f"(λ c. arm (c .before .args .i) {at} (c .match .keys{at + 1}))" for at in range(last))
-    return f"""-- `power::table::entry` meets its contract: each arm has the entry at its own place, and the last is left for the last. Assumes nothing.
+    return f"""-- `power::table::{name}` meets its contract: each arm has the entry at its own place, and the last is left for the last. Assumes nothing.
 use mathlib.Core.Path.{{_≡_}}
 use Prim.Native.Nat.{{ℕ}}
 use native.Mathlib.Omega.{{arith}}
 use lib.ListN.{{getD}}
-use Rattle.power.specs.Table.{{powers}}
+use Rattle.power.specs.Table.{{{name}s}}
 use Rattle.power.proofs.Arms.{{past}}
-use Rattle.power.proofs.table.entry.Statement.{{statement}}
-use Rattle.power.proofs.table.entry.Tie as tie
+use Rattle.power.proofs.table.{name}.Statement.{{statement}}
+use Rattle.power.proofs.table.{name}.Tie as tie
 
-arm : (i k : ℕ) → i ≡ k → getD powers k 0 ≡ getD powers i 0
+arm : (i k : ℕ) → i ≡ k → getD {name}s k 0 ≡ getD {name}s i 0
 arm i k e = rw e
 
-pub entry-spec : {{M : Type 1}} → statement M
-unfolding powers
-entry-spec =
+pub {name}-spec : {{M : Type 1}} → statement M
+unfolding {name}s
+{name}-spec =
     tie.close
     (tie.spec
     {arms}
@@ -96,16 +103,18 @@ entry-spec =
 
 
 def main():
-    entries = [entry for k, count in PARTS for entry in part(k, count)]
-    files = {"specs/Table.antt": listed, "src/table.rt": function, "proofs/table/entry/Proof.antt": proof}
+    parts = [(name, k, part(k, count)) for name, k, count in PARTS]
+    files = {"specs/Table.antt": listed(parts), "src/table.rt": functions(parts)}
+    for name, _, entries in parts:
+        files[f"proofs/table/{name}/Proof.antt"] = proof(name, entries)
     for name, text in files.items():
         path = os.path.join(ROOT, ROOM, name)
         if sys.argv[1:] == ["--check"]:
-            if open(path, encoding="utf-8").read() != text(entries):
+            if open(path, encoding="utf-8").read() != text:
                 sys.exit(f"table: {ROOM}/{name} isn't what tests/table.py writes")
         else:
             os.makedirs(os.path.dirname(path), exist_ok=True)
-            open(path, "w", encoding="utf-8").write(text(entries))
+            open(path, "w", encoding="utf-8").write(text)
 
 
 main()

@@ -1,5 +1,6 @@
 -- What takes a number to 2^63: digit after digit of an exponent of 2, and it stays below. Assumes nothing.
 use mathlib.Core.Path.{_≡_, refl, sym, ap, _∙_}
+use mathlib.Core.List.{List}
 use Prim.Native.Nat.{ℕ, suc, _+_, _-_, _*_, _/_, _%_, _^_, _≤_, _<_}
 use native.Mathlib.Nat.{mod-eq-of-lt, le-trans, le-of-eq, le-of-lt, lt-of-lt-of-le, lt-of-not-le, not-le-of-lt, mul-lt-mul-of-pos-right, mul-le-mul-left, mul-le-mul-right, mul-pos, le-of-mul-le-mul-right, zero-add}
 use native.Mathlib.Decide.{decLe}
@@ -9,8 +10,8 @@ use lib.Pow.{pow-add, pow-mono, pow-pos}
 use lib.Count.{leadingZeros, leading-top}
 use lib.ListN.{getD}
 use Rattle.power.specs.declared.Climb.{Climb}
-use Rattle.power.specs.Table.{powers}
-use Rattle.power.specs.Steps.{times-of, first-digit, digit-of, first-of, step-of, second-of, third-of, inverse-slope, short, complement-of}
+use Rattle.power.specs.Table.{coarses, middles, fines}
+use Rattle.power.specs.Steps.{times-of, first-digit, digit-of, first-of, climbed-of, step-of, second-of, third-of, inverse-slope, short, complement-of}
 use Rattle.power.proofs.Twos.{AtMost, AtLeast, most-mul, least-mul, most-down, least-up, least-none, turn-least, turn-most}
 use Rattle.power.proofs.Entries.{Factor, Takes, first-left, second-left, third-left, coarse-is, middle-is, fine-is, middle-takes, fine-takes, start-is, rest-least, rest-most}
 use Rattle.power.proofs.Products.{times-down, times-up, Grown, none-grown, times-grown}
@@ -88,20 +89,20 @@ unfolding first-of
 first-is m low high = go (m / 2 ^ 56 - 64) (omega arith) (omega arith) (omega arith)
   where
     go : (i : ℕ) → i < 64 → (64 + i) * 2 ^ 56 ≤ m → m < (65 + i) * 2 ^ 56
-        → Reached m (first-left + 2) 2 (record { reached = times-of m (getD powers (first-digit i) 0); exponent = first-digit i * 2 ^ 27 })
+        → Reached m (first-left + 2) 2 (record { reached = times-of m (getD coarses (first-digit i) 0); exponent = first-digit i * 2 ^ 27 })
     go i less from to =
         let s = start-is i less in
         let c = first-digit i in
-        let close = first-close m i (getD powers c 0) from to (s .up) (s .down) in
-        let enough : 2 ^ 62 ≤ times-of m (getD powers c 0) = omega (arith, close .near) in
+        let close = first-close m i (getD coarses c 0) from to (s .up) (s .down) in
+        let enough : 2 ^ 62 ≤ times-of m (getD coarses c 0) = omega (arith, close .near) in
         record { close = close; grown = rw (zero-add (c * 2 ^ 27)) at (times-grown (omega arith) enough (none-grown m) (coarse-is c (s .few))) }
 
-step-is : {m w k : ℕ} (n : Climb) (s base worth W : ℕ) → 0 < s → 0 < m → W ≤ 2 ^ 60 → Reached m w k n
-    → Factor (digit-of s (n .reached) * worth) (getD powers (base + digit-of s (n .reached)) 0)
-    → Takes s (digit-of s (n .reached)) W (getD powers (base + digit-of s (n .reached)) 0) → Reached m (W + 2 ^ 32 + 2) (k + 2) (step-of n s base worth)
-unfolding step-of
-step-is {m} {w} {k} n s base worth W pos mpos small r f takes =
-    let d = getD powers (base + digit-of s (n .reached)) 0 in
+step-is : {m w k : ℕ} (n : Climb) (s : ℕ) (part : List ℕ) (worth W : ℕ) → 0 < s → 0 < m → W ≤ 2 ^ 60 → Reached m w k n
+    → Factor (digit-of s (n .reached) * worth) (getD part (digit-of s (n .reached)) 0)
+    → Takes s (digit-of s (n .reached)) W (getD part (digit-of s (n .reached)) 0) → Reached m (W + 2 ^ 32 + 2) (k + 2) (step-of n s part worth)
+unfolding step-of climbed-of
+step-is {m} {w} {k} n s part worth W pos mpos small r f takes =
+    let d = getD part (digit-of s (n .reached)) 0 in
     let close = taken s W (n .reached) d pos (r .close .high) (le-of-lt (f .high)) takes in
     let enough : 2 ^ 62 ≤ times-of (n .reached) d = omega (arith, close .near) in
     record { close = close; grown = times-grown mpos enough (r .grown) f }
@@ -129,11 +130,11 @@ module _ (m : ℕ) (low : 2 ^ 62 ≤ m) (high : m < 2 ^ 63) where
   first-exponent = omega (arith, start-is (m / 2 ^ 56 - 64) (omega arith) .few)
 
   pub second-exponent : second-of m .exponent ≤ 2 ^ 33
-  unfolding step-of
+  unfolding step-of climbed-of
   second-exponent = omega (arith, first-exponent, second-few _ (first-is m low high .close))
 
   pub third-exponent : third-of m .exponent ≤ 2 ^ 34
-  unfolding step-of
+  unfolding step-of climbed-of
   third-exponent = omega (arith, second-exponent, third-few _ (second-is .close))
 
 -- What takes m to 2^63.

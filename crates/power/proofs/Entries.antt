@@ -6,7 +6,7 @@ use native.Mathlib.Nat.{le-trans, le-of-eq, mul-le-mul-left, mul-le-mul-right}
 use native.Mathlib.Omega.{arith}
 use lib.Dec.{leb, ltb, T, leb→le, ltb→lt, lit≤}
 use lib.ListN.{getD}
-use Rattle.power.specs.Table.{powers}
+use Rattle.power.specs.Table.{coarses, middles, fines}
 use Rattle.power.specs.Steps.{first-digit, slope, inverse-slope, short}
 use Rattle.power.proofs.Tests.{both, both-left, both-right, each, at}
 use Rattle.power.proofs.Twos.{AtMost, AtLeast, most-down, least-up, most-finer, least-finer, most-line, least-line}
@@ -74,29 +74,25 @@ abbrev pub third-left : ℕ
 third-left = 203360000000000
 
 -- One computed test for each part of the table.
-pub coarse-is : (i : ℕ) → i < 32 → Factor (i * 2 ^ 27) (getD powers i 0)
-unfolding powers power? squared-up squared-down
-coarse-is i h = is-power 5 27 i _ refl (at (λ i. power? 5 i (getD powers i 0)) 32 tt i h)
+pub coarse-is : (i : ℕ) → i < 32 → Factor (i * 2 ^ 27) (getD coarses i 0)
+unfolding coarses power? squared-up squared-down
+coarse-is i h = is-power 5 27 i _ refl (at (λ i. power? 5 i (getD coarses i 0)) 32 tt i h)
 
-pub middle-is : (i : ℕ) → i < 50 → Factor (i * 2 ^ 22) (getD powers (32 + i) 0)
-unfolding powers power? squared-up squared-down
-middle-is i h = is-power 10 22 i _ refl (at (λ i. power? 10 i (getD powers (32 + i) 0)) 50 tt i h)
+pub middle-is : (i : ℕ) → i < 50 → Factor (i * 2 ^ 22) (getD middles i 0)
+unfolding middles power? squared-up squared-down
+middle-is i h = is-power 10 22 i _ refl (at (λ i. power? 10 i (getD middles i 0)) 50 tt i h)
 
-pub fine-is : (i : ℕ) → i < 61 → Factor (i * 2 ^ 17) (getD powers (82 + i) 0)
-unfolding powers power? squared-up squared-down
-fine-is i h = is-power 15 17 i _ refl (at (λ i. power? 15 i (getD powers (82 + i) 0)) 61 tt i h)
+pub fine-is : (i : ℕ) → i < 61 → Factor (i * 2 ^ 17) (getD fines i 0)
+unfolding fines power? squared-up squared-down
+fine-is i h = is-power 15 17 i _ refl (at (λ i. power? 15 i (getD fines i 0)) 61 tt i h)
 
-pub middle-takes : (i : ℕ) → i < 50 → Takes 1477 i second-left (getD powers (32 + i) 0)
-unfolding powers takes?
-middle-takes i h = is-taking 1477 i second-left _ (at (λ i. takes? 1477 i second-left (getD powers (32 + i) 0)) 50 tt i h)
+pub middle-takes : (i : ℕ) → i < 50 → Takes 1477 i second-left (getD middles i 0)
+unfolding middles takes?
+middle-takes i h = is-taking 1477 i second-left _ (at (λ i. takes? 1477 i second-left (getD middles i 0)) 50 tt i h)
 
-pub fine-takes : (i : ℕ) → i < 61 → Takes 47274 i third-left (getD powers (82 + i) 0)
-unfolding powers takes?
-fine-takes i h = is-taking 47274 i third-left _ (at (λ i. takes? 47274 i third-left (getD powers (82 + i) 0)) 61 tt i h)
-
-pub entry-fits : (j : ℕ) → j < 143 → getD powers j 0 < 2 ^ 64
-unfolding powers
-entry-fits j h = ltb→lt _ _ (at (λ j. ltb (getD powers j 0) (2 ^ 64)) 143 tt j h)
+pub fine-takes : (i : ℕ) → i < 61 → Takes 47274 i third-left (getD fines i 0)
+unfolding fines takes?
+fine-takes i h = is-taking 47274 i third-left _ (at (λ i. takes? 47274 i third-left (getD fines i 0)) 61 tt i h)
 
 -- The first digit's, for a number from (64 + i)/64 to (65 + i)/64.
 pub record Starts (i c d : ℕ) : Type 0 where
@@ -116,9 +112,9 @@ is-start i c d t =
     let r = both-right a (both b e) t in
     record { few = ltb→lt _ _ (both-left a (both b e) t); up = leb→le _ _ (both-left b e r); down = leb→le _ _ (both-right b e r) }
 
-pub start-is : (i : ℕ) → i < 64 → Starts i (first-digit i) (getD powers (first-digit i) 0)
-unfolding first-digit powers starts?
-start-is i h = is-start i _ _ (at (λ i. starts? i (first-digit i) (getD powers (first-digit i) 0)) 64 tt i h)
+pub start-is : (i : ℕ) → i < 64 → Starts i (first-digit i) (getD coarses (first-digit i) 0)
+unfolding first-digit coarses starts?
+start-is i h = is-start i _ _ (at (λ i. starts? i (first-digit i) (getD coarses (first-digit i) 0)) 64 tt i h)
 
 -- ── The straight line ───────────────────────────────────────────────────────────────────────
 

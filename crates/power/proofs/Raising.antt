@@ -5,7 +5,7 @@ use native.Mathlib.Nat.{mul-le-mul, div-mul-le-self, lt-div-mul-add, le-div-iff-
 use native.Mathlib.Omega.{arith}
 use lib.Dec.{lit≤}
 use lib.ListN.{getD}
-use Rattle.power.specs.Table.{powers}
+use Rattle.power.specs.Table.{coarses, middles, fines}
 use Rattle.power.specs.Steps.{times-of, slope, two-to}
 use Rattle.power.proofs.Twos.{AtMost, AtLeast, most-mul, most-small}
 use Rattle.power.proofs.Entries.{Factor, coarse-is, middle-is, fine-is, line-most, line-least}
@@ -51,23 +51,23 @@ module _ (f : ℕ) (small : f < 2 ^ 32) where
   parts : f / 2 ^ 27 * 2 ^ 27 + f / 2 ^ 22 % 32 * 2 ^ 22 + f / 2 ^ 17 % 32 * 2 ^ 17 + f % 2 ^ 17 ≡ f
   parts = omega arith
 
-  coarse : Factor (f / 2 ^ 27 * 2 ^ 27) (getD powers (f / 2 ^ 27) 0)
+  coarse : Factor (f / 2 ^ 27 * 2 ^ 27) (getD coarses (f / 2 ^ 27) 0)
   coarse = coarse-is (f / 2 ^ 27) (omega arith)
 
-  middle : Factor (f / 2 ^ 22 % 32 * 2 ^ 22) (getD powers (32 + f / 2 ^ 22 % 32) 0)
+  middle : Factor (f / 2 ^ 22 % 32 * 2 ^ 22) (getD middles (f / 2 ^ 22 % 32) 0)
   middle = middle-is (f / 2 ^ 22 % 32) (omega arith)
 
-  fine : Factor (f / 2 ^ 17 % 32 * 2 ^ 17) (getD powers (82 + f / 2 ^ 17 % 32) 0)
+  fine : Factor (f / 2 ^ 17 % 32 * 2 ^ 17) (getD fines (f / 2 ^ 17 % 32) 0)
   fine = fine-is (f / 2 ^ 17 % 32) (omega arith)
 
-  first-low : 2 ^ 63 ≤ times-of (getD powers (f / 2 ^ 27) 0) (getD powers (32 + f / 2 ^ 22 % 32) 0)
+  first-low : 2 ^ 63 ≤ times-of (getD coarses (f / 2 ^ 27) 0) (getD middles (f / 2 ^ 22 % 32) 0)
   first-low = times-low _ _ (coarse .low) (middle .low)
 
-  first-is : Grown (2 ^ 63) (f / 2 ^ 27 * 2 ^ 27 + f / 2 ^ 22 % 32 * 2 ^ 22) 3 (times-of (getD powers (f / 2 ^ 27) 0) (getD powers (32 + f / 2 ^ 22 % 32) 0))
+  first-is : Grown (2 ^ 63) (f / 2 ^ 27 * 2 ^ 27 + f / 2 ^ 22 % 32 * 2 ^ 22) 3 (times-of (getD coarses (f / 2 ^ 27) 0) (getD middles (f / 2 ^ 22 % 32) 0))
   first-is = times-grown (lit≤ tt) (omega (arith, first-low)) (entry-grown coarse) middle
 
   second-is : Grown (2 ^ 63) (f / 2 ^ 27 * 2 ^ 27 + f / 2 ^ 22 % 32 * 2 ^ 22 + f / 2 ^ 17 % 32 * 2 ^ 17) 5
-      (times-of (times-of (getD powers (f / 2 ^ 27) 0) (getD powers (32 + f / 2 ^ 22 % 32) 0)) (getD powers (82 + f / 2 ^ 17 % 32) 0))
+      (times-of (times-of (getD coarses (f / 2 ^ 27) 0) (getD middles (f / 2 ^ 22 % 32) 0)) (getD fines (f / 2 ^ 17 % 32) 0))
   second-is = times-grown (lit≤ tt) (omega (arith, times-low _ _ first-low (fine .low))) first-is fine
 
   pub two-to-is : Raised lost whole f (two-to f)
@@ -75,10 +75,10 @@ module _ (f : ℕ) (small : f < 2 ^ 32) where
   two-to-is = rw parts at (line-is _ (f % 2 ^ 17) (mod-lt f (lit≤ tt)) (times-low _ _ first-low (fine .low)) second-is)
 
   -- What the code multiplies and adds fits a word.
-  pub first-fits : getD powers (f / 2 ^ 27) 0 * getD powers (32 + f / 2 ^ 22 % 32) 0 < 2 ^ 127
+  pub first-fits : getD coarses (f / 2 ^ 27) 0 * getD middles (f / 2 ^ 22 % 32) 0 < 2 ^ 127
   first-fits = most-small (lit≤ tt) (omega arith) (most-mul (coarse .most) (middle .most))
 
-  pub second-fits : times-of (getD powers (f / 2 ^ 27) 0) (getD powers (32 + f / 2 ^ 22 % 32) 0) * getD powers (82 + f / 2 ^ 17 % 32) 0 < 2 ^ 127
+  pub second-fits : times-of (getD coarses (f / 2 ^ 27) 0) (getD middles (f / 2 ^ 22 % 32) 0) * getD fines (f / 2 ^ 17 % 32) 0 < 2 ^ 127
   second-fits = most-small (lit≤ tt) (omega arith) (most-mul (first-is .most) (fine .most))
 
   pub two-to-fits : two-to f < 2 ^ 64

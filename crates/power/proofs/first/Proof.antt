@@ -1,35 +1,26 @@
 -- `power::first` meets its contract. Assumes nothing.
-use Prim.Native.Nat.{_-_, _/_, _^_, _<_}
+use Prim.Native.Nat.{_-_, _/_, _^_}
 use native.Mathlib.Nat.{le-of-lt}
 use native.Mathlib.Omega.{arith}
 use borrow.Author.Needs.{needs}
 use Rattle.power.specs.Steps.{first-of}
-use Rattle.power.proofs.Entries.{start-is, entry-fits}
+use Rattle.power.proofs.Entries.{start-is}
 use Rattle.power.proofs.Columns.{product-fits}
 use Rattle.power.proofs.first.Statement.{statement}
 use Rattle.power.proofs.first.Tie as tie
 
-sub-first-digit : tie.Need-sub-first-digit
-sub-first-digit c = search needs
-
-first-digit-requires : tie.Need-first-digit-requires
-first-digit-requires c κs = search needs
-
-entry-requires : tie.Need-entry-requires
-entry-requires c κs = rw (c .first-digit .ensures) (omega (arith, start-is (c .before .args .m / 2 ^ 56 - 64) (omega arith) .few))
-
-times-requires : tie.Need-times-requires
-times-requires c κs =
-    let at = c .before .before in
-    let few : c .before .first-digit .result < 143 = rw (c .before .first-digit .ensures) (omega (arith, start-is (at .args .m / 2 ^ 56 - 64) (omega arith) .few)) in
-    rw (c .entry .ensures) (product-fits _ _ (le-of-lt (at .pre .1)) (entry-fits _ few))
-
-mul-t5 : tie.Need-mul-t5
-mul-t5 c = rw (c .before .before .first-digit .ensures) (omega (arith, start-is (c .before .before .before .args .m / 2 ^ 56 - 64) (omega arith) .few))
-
 returns : tie.Need-returns
 unfolding first-of
-returns c = rw (c .times .ensures, c .before .entry .ensures, c .before .before .first-digit .ensures)
+returns c = rw (c .times .ensures, c .before .coarse .ensures, c .before .before .first-digit .ensures)
+
+coarse-requires : tie.Need-coarse-requires
+coarse-requires c κs = rw (c .first-digit .ensures) (start-is (c .before .args .m / 2 ^ 56 - 64) (omega arith) .few)
+
+times-requires : tie.Need-times-requires
+times-requires c κs = product-fits _ _ (le-of-lt (c .before .before .pre .1)) (omega arith)
+
+mul-exponent : tie.Need-mul-t5
+mul-exponent c = rw (c .before .before .first-digit .ensures) (omega (arith, start-is (c .before .before .before .args .m / 2 ^ 56 - 64) (omega arith) .few))
 
 pub first-spec : {M : Type 1} → statement M
-first-spec = tie.close (tie.spec sub-first-digit first-digit-requires entry-requires times-requires mul-t5 returns)
+first-spec = tie.close (tie.spec (λ c. search needs) (λ c κs. search needs) coarse-requires times-requires mul-exponent returns)
