@@ -6,7 +6,7 @@ use mathlib.Core.List.{List, [], _∷_}
 use native.Mathlib.Nat.{mul-le-mul, suc-pred-eq-of-pos}
 use native.Mathlib.Numerals.{add-one}
 use native.Mathlib.Omega.{arith}
-use lib.Dec.{lit<}
+use lib.Dec.{lit<, lit≤}
 use lib.ListN.{length, getD}
 use Rattle.formula.specs.Formula.{_//_, Formula, lit, _⊕_, _⊘_, Enclosed}
 use Rattle.formula.specs.Words.{whole}
@@ -67,7 +67,7 @@ module _ (t l : ℕ) (w : Within 100 600000 t) (few : l ≤ 415456880000) where
 
   pub crane-divisible : Divisible (capacity + l) capacity 32768 2
   crane-divisible =
-      record { some = some; based = lit< tt; rest-fits = omega (arith, w .most); quotient-fits = omega (arith, w .least) }
+      record { some = some; based = lit< tt; narrow = lit≤ tt; moderate = omega (arith, w .most); quotient-fits = omega (arith, w .least) }
 
   pair-factored : {e : Formula} → Enclosed e ((capacity + l) // capacity) ((capacity + l) // capacity)
       → Factored e (record { lo = (capacity + l) * 32768 ^ 2 / capacity; hi = ceil-of ((capacity + l) * 32768 ^ 2) capacity })

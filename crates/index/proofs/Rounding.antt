@@ -38,7 +38,7 @@ module _ {n load v c : ℕ} (z : Sized n load v c) where
   enough = lt-of-le-of-lt (mul-le-mul-right (10 ^ 15) (z .emitted)) (lt-of-lt-of-le (lit< tt) (mul-le-mul-left (2 ^ 63) work-low))
 
   pub divisible : Divisible n (load * v) 10 15
-  divisible = record { some = work-some; based = lit< tt; rest-fits = omega (arith, work-high); quotient-fits = enough }
+  divisible = record { some = work-some; based = lit< tt; narrow = lit≤ tt; moderate = omega (arith, work-high); quotient-fits = enough }
 
   pub up-some : 0 < load * v * millionths-up c
   up-some = mul-pos work-some (omega (arith, up-within (z .factored) .least))

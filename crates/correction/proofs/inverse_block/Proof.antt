@@ -22,7 +22,7 @@ floor-scaled-requires : tie.Need-floor-scaled-requires
 floor-scaled-requires c κs =
     let at = c .before .before .before in
     let v = at .pre .volume in
-    record { some = omega (arith, v .least); based = omega arith; rest-fits = omega (arith, v .most); quotient-fits = omega (arith, block-fits at, v .least) }
+    record { some = omega (arith, v .least); based = omega arith; narrow = omega arith; moderate = omega (arith, v .most); quotient-fits = omega (arith, block-fits at, v .least) }
 
 quotient : (c : tie.After-floor-scaled)
     → let h = c .before .before .before .before .args .hull in
