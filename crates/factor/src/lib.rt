@@ -85,9 +85,10 @@ fn cranes(deadweight: Deadweight, used: u64, gear: [Crane; 8]) -> Bounds
 {
     let d = deadweight.tonnes * 1000000;
     let n = d + lifted(used, gear);
+    let f = number::division::both_scaled(n, d, 32768, 2);
     Bounds {
-        lo: number::division::floor_scaled(n, d, 32768, 2),
-        hi: number::division::ceil_scaled(n, d, 32768, 2),
+        lo: f.down,
+        hi: f.up,
     }
 }
 

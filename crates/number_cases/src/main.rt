@@ -1,7 +1,7 @@
 // Works out the cases that it reads, for the tests from outside: a case is five little-endian words of 8 bytes, what is
 // asked and up to four numbers, and its answer is a line of numbers, or `-` where the numbers are outside the function's domain.
 // Asked is 1 the square root of a; 2 its cube root; 3 the cube root of a/b; 4 a/b in millionths, rounded down and up;
-// 5 the power (a/b)^(c/d); 6 the plain power.
+// 5 the power (a/b)^(c/d); 6 the plain power; 7 a/b in units of 10^-15, rounded down and up.
 use fields::number_at;
 use libc::STDIN_FILENO;
 use libc::STDOUT_FILENO;
@@ -76,10 +76,26 @@ fn millionths(n: u64, d: u64) {
         outside();
         return;
     }
-    two(
-        number::division::floor_scaled(n, d, 10, 6),
-        number::division::ceil_scaled(n, d, 10, 6),
-    );
+    let q = number::division::both_scaled(n, d, 10, 6);
+    two(q.down, q.up);
+}
+
+// Its quotient fits 63 bits: 9223 * 10^15 is below 2^63.
+fn long_quotient(n: u64, d: u64) {
+    if d == 0 {
+        outside();
+        return;
+    }
+    if 9223372036854775808 <= d {
+        outside();
+        return;
+    }
+    if d <= n / 9223 {
+        outside();
+        return;
+    }
+    let q = number::division::both_scaled(n, d, 100000, 3);
+    two(q.down, q.up);
 }
 
 fn raised(plain: bool, a: u64, b: u64, p: u64, q: u64) {
@@ -124,6 +140,7 @@ fn answer(k: Case) {
         4 => millionths(k.a, k.b),
         5 => raised(false, k.a, k.b, k.c, k.d),
         6 => raised(true, k.a, k.b, k.c, k.d),
+        7 => long_quotient(k.a, k.b),
         _ => outside(),
     }
 }
