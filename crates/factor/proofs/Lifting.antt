@@ -17,7 +17,7 @@ use Rattle.formula.proofs.Formulas.{enclosed-≈, enclosed-wider, enclosed-lit,
 use Rattle.number.specs.Division.{ceil-of, Divisible}
 use Rattle.number.proofs.Divisions.{floor-is, ceil-is, floor-greatest, ceil-least, floor-ceil}
 use Rattle.ship.specs.Record.{no-crane}
-use Rattle.ship.specs.Figures.{crane-of, cranes-of}
+use Rattle.ship.specs.Figures.{cranes-of}
 use Rattle.ship.specs.Accepted.{Within, Each, no-more, one-more, Geared}
 use Rattle.ship.specs.declared.Crane as entry
 use Rattle.power.specs.Numbers.{unit}

@@ -8,8 +8,8 @@ use Rattle.propeller.proofs.quotient_down.Tie as tie
 
 returns : tie.Need-returns
 returns c =
-    let at = c .before in
-    floor-named (mul-pos (omega (arith, at .pre .0)) (at .pre .3)) (floor-floor (c .floor-scaled .ensures) (floor-is _ _ (at .pre .3)))
+    let at = c .before .before in
+    floor-named (mul-pos (omega (arith, at .pre .0)) (at .pre .3)) (floor-floor (c .before .quotient .ensures .0) (floor-is _ _ (at .pre .3)))
 
 pub quotient-down-spec : {M : Type 1} → statement M
 quotient-down-spec = tie.close (tie.spec (λ c κs. search needs) (λ c. search needs) returns)

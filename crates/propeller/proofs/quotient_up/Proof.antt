@@ -9,14 +9,14 @@ use Rattle.propeller.proofs.quotient_up.Tie as tie
 
 add-result : tie.Need-add-result
 add-result c =
-    let at = c .before in
-    let top : c .ceil-scaled .result ≤ 2 ^ 62 = ceil-least (c .ceil-scaled .ensures) (2 ^ 62) (omega (arith, at .pre .0, at .pre .2)) in
+    let at = c .before .before in
+    let top : c .before .quotient .result .up ≤ 2 ^ 62 = ceil-least (c .before .quotient .ensures .1) (2 ^ 62) (omega (arith, at .pre .0, at .pre .2)) in
     omega (arith, at .pre .4)
 
 returns : tie.Need-returns
 returns c =
-    let at = c .before in
-    ceil-named (mul-pos (omega (arith, at .pre .0)) (at .pre .3)) (ceil-ceil (c .ceil-scaled .ensures) (ceil-is _ _ (at .pre .3)))
+    let at = c .before .before in
+    ceil-named (mul-pos (omega (arith, at .pre .0)) (at .pre .3)) (ceil-ceil (c .before .quotient .ensures .1) (ceil-is _ _ (at .pre .3)))
 
 pub quotient-up-spec : {M : Type 1} → statement M
 quotient-up-spec = tie.close (tie.spec (λ c κs. search needs) (λ c. search needs) add-result (λ c. search needs) returns)
