@@ -1,10 +1,11 @@
 -- The two roundings of an index: what fits, how near they are, and that they grow and fall with their parts. Assumes nothing.
-use Prim.Native.Nat.{ℕ, zero, suc, _+_, _*_, _^_, _≤_, _<_}
-use native.Mathlib.Nat.{le-trans, le-of-lt, lt-of-le-of-lt, lt-of-lt-of-le, mul-pos, mul-le-mul, mul-le-mul-left, mul-le-mul-right}
+use mathlib.Core.Path.{_≡_, refl}
+use Prim.Native.Nat.{ℕ, zero, suc, _+_, _*_, _/_, _^_, _≤_, _<_}
+use native.Mathlib.Nat.{le-trans, le-of-lt, lt-of-le-of-lt, lt-of-lt-of-le, mul-pos, mul-le-mul, mul-le-mul-left, mul-le-mul-right, pow-le-pow-right}
 use native.Mathlib.Omega.{arith}
 use lib.Dec.{lit<, lit≤}
-use Rattle.number.specs.Division.{Divisible, Floor, Ceil}
-use Rattle.number.proofs.Divisions.{floor-is, ceil-is, ceil-least, floor-order, ceil-order}
+use Rattle.number.specs.Division.{Divisible, Floor, Ceil, ceil-of}
+use Rattle.number.proofs.Divisions.{floor-is, ceil-is, ceil-least, floor-order, ceil-order, floor-unique, ceil-unique, floor-cancel, ceil-cancel, floor-floor, ceil-ceil}
 use Rattle.number.proofs.Gaps.{Gap, gap-product, gap-rounded, gap-cut}
 use Rattle.ship.specs.Accepted.{Within}
 use Rattle.index.specs.Attained.{millionths-down, millionths-up, index-down, index-up, Sized}
@@ -37,8 +38,14 @@ module _ {n load v c : ℕ} (z : Sized n load v c) where
   enough : n * 10 ^ 15 < 2 ^ 63 * (load * v)
   enough = lt-of-le-of-lt (mul-le-mul-right (10 ^ 15) (z .emitted)) (lt-of-lt-of-le (lit< tt) (mul-le-mul-left (2 ^ 63) work-low))
 
-  pub divisible : Divisible n (load * v) 10 15
-  divisible = record { some = work-some; based = lit< tt; narrow = lit≤ tt; moderate = omega (arith, work-high); quotient-fits = enough }
+  -- The thousandfold of n fits its word, and six digits more or twelve fit the quotient's.
+  in-digits : n * 1000 * 1000000 ^ 2 ≡ n * 10 ^ 15
+  in-digits = omega arith
+
+  pub divisible : (digits : ℕ) → digits ≤ 2 → Divisible (n * 1000) (load * v) 1000000 digits
+  divisible digits few =
+      let most : n * 1000 * 1000000 ^ digits ≤ n * 1000 * 1000000 ^ 2 = mul-le-mul-left (n * 1000) (pow-le-pow-right (lit< tt) few) in
+      record { some = work-some; based = lit< tt; narrow = lit≤ tt; moderate = omega (arith, work-high); quotient-fits = lt-of-le-of-lt most (rw in-digits enough) }
 
   pub up-some : 0 < load * v * millionths-up c
   up-some = mul-pos work-some (omega (arith, up-within (z .factored) .least))
@@ -46,8 +53,8 @@ module _ {n load v c : ℕ} (z : Sized n load v c) where
   pub down-some : 0 < load * v * millionths-down c
   down-some = mul-pos work-some (omega (arith, down-within (z .factored) .least))
 
-  pub quotient-small : {u : ℕ} → Ceil (n * 10 ^ 15) (load * v) u → u ≤ 2 ^ 63
-  quotient-small f = ceil-least f (2 ^ 63) (le-of-lt enough)
+  pub quotient-small : {u : ℕ} → Ceil (n * 1000 * 1000000 ^ 2) (load * v) u → u ≤ 2 ^ 63
+  quotient-small f = ceil-least f (2 ^ 63) (rw in-digits (le-of-lt enough))
 
   pub lower-floor : Floor (n * 10 ^ 15) (load * v * millionths-up c) (index-down n load v c)
   unfolding index-down
@@ -56,6 +63,24 @@ module _ {n load v c : ℕ} (z : Sized n load v c) where
   pub upper-ceil : Ceil (n * 10 ^ 15) (load * v * millionths-down c) (index-up n load v c)
   unfolding index-up
   upper-ceil = ceil-is _ _ down-some
+
+  -- Two roundings the same way are one.
+  pub lower-by-factor : {q : ℕ} → Floor (n * 1000 * 1000000 ^ 2) (load * v) q → q / millionths-up c ≡ index-down n load v c
+  lower-by-factor {q} f =
+      let g : Floor (n * 10 ^ 15) (load * v) q = rw (← in-digits) f in
+      floor-unique (floor-floor g (floor-is _ _ (omega (arith, up-within (z .factored) .least)))) lower-floor
+
+  pub upper-by-factor : {q : ℕ} → Ceil (n * 1000 * 1000000 ^ 2) (load * v) q → ceil-of q (millionths-down c) ≡ index-up n load v c
+  upper-by-factor {q} f =
+      let g : Ceil (n * 10 ^ 15) (load * v) q = rw (← in-digits) f in
+      ceil-unique (ceil-ceil g (ceil-is _ _ (omega (arith, down-within (z .factored) .least)))) upper-ceil
+
+  -- A factor of a million millionths and six of the fifteen digits drop out.
+  pub lower-alone : {q : ℕ} → c ≡ 2 ^ 30 → Floor (n * 1000 * 1000000 ^ 1) (load * v) q → q ≡ index-down n load v c
+  lower-alone e f = floor-unique f (floor-cancel 1000000 (lit< tt) (omega arith) (rw e refl) lower-floor)
+
+  pub upper-alone : {q : ℕ} → c ≡ 2 ^ 30 → Ceil (n * 1000 * 1000000 ^ 1) (load * v) q → q ≡ index-up n load v c
+  upper-alone e f = ceil-unique f (ceil-cancel 1000000 (lit< tt) (omega arith) (rw e refl) upper-ceil)
 
   -- Below 2^53.
   pub upper-small : index-up n load v c < 2 ^ 53

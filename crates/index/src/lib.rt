@@ -24,24 +24,46 @@ pub struct Index {
     pub upper: u64,
 }
 
-// n / (load v c), rounded down: by load v to 63 bits, then by f_c times f_l in millionths, which is one rounding.
-fn lower(n: u64, load: u64, v: u64, c: u64) -> u64
+// n / (load v c), rounded down and up: by load v to 63 bits, then by f_c times f_l in millionths, which is one rounding. Where that factor
+// is 1 nothing is left to divide by, and a digit less is the index.
+fn both(n: u64, load: u64, v: u64, c: u64) -> Index
     requires { ⌜ Sized n load v c ⌝ }
-    ensures { λ r. ⌜ r ≡ index-down n load v c ⌝ }
+    ensures { λ r. ⌜ r .lower ≡ index-down n load v c ⌝ }
+    ensures { λ r. ⌜ r .upper ≡ index-up n load v c ⌝ }
 {
-    let f = (c * 1000000 + 1073741823) / 1073741824;
-    let q = number::division::floor_scaled(n, load * v, 10, 15);
-    q / f
+    let work = load * v;
+    let thousandfold = n * 1000;
+    if c == 1073741824 {
+        let q = number::division::both_scaled(thousandfold, work, 1000000, 1);
+        return Index {
+            lower: q.down,
+            upper: q.up,
+        };
+    }
+    let up = (c * 1000000 + 1073741823) / 1073741824;
+    let down = c * 1000000 / 1073741824;
+    let q = number::division::both_scaled(thousandfold, work, 1000000, 2);
+    let lower = q.down / up;
+    let upper = (q.up + (down - 1)) / down;
+    Index { lower, upper }
 }
 
-// n / (load v c), rounded up.
-fn upper(n: u64, load: u64, v: u64, c: u64) -> u64
-    requires { ⌜ Sized n load v c ⌝ }
-    ensures { λ r. ⌜ r ≡ index-up n load v c ⌝ }
+// The lower bound from the least emissions over the greatest speed and factor, the upper one from the reverse. Where the two ends have the same
+// figures, one quotient gives both.
+fn between(n: Range, load: u64, most: u64, least: u64, c: Bounds) -> Index
+    requires { ⌜ Sized (n .low) load most (c .hi) × Sized (n .high) load least (c .lo) ⌝ }
+    ensures { λ r. ⌜ r .lower ≡ index-down (n .low) load most (c .hi) ⌝ }
+    ensures { λ r. ⌜ r .upper ≡ index-up (n .high) load least (c .lo) ⌝ }
 {
-    let f = c * 1000000 / 1073741824;
-    let q = number::division::ceil_scaled(n, load * v, 10, 15);
-    (q + (f - 1)) / f
+    let low = both(n.low, load, most, c.hi);
+    if (n.low == n.high) & (most == least) & (c.lo == c.hi) {
+        return low;
+    }
+    let high = both(n.high, load, least, c.lo);
+    Index {
+        lower: low.lower,
+        upper: high.upper,
+    }
 }
 
 // The speed bounds of a record that rules 3 to 19 leave. Where neither speed nor power is a range, the most and the least favourable
@@ -90,10 +112,7 @@ pub fn attained(s: Ship, v: SpeedBounds) -> Index
     let hull = s.particulars.build.hull;
     let own = n.main;
     let main = main_engines(s.particulars.kind, most, hull, own);
-    let low = lower(main.low + n.auxiliary.low, load, most.hi, c.hi);
-    let high = upper(main.high + n.auxiliary.high, load, least.lo, c.lo);
-    Index {
-        lower: low,
-        upper: high,
-    }
+    let low = main.low + n.auxiliary.low;
+    let high = main.high + n.auxiliary.high;
+    between(Range { low, high }, load, most.hi, least.lo, c)
 }

@@ -45,35 +45,33 @@ upper-asked c =
     upper-sized (s .args .s) (four (s .args .s) _ (s .good .0)) (s .pre .0) (s .pre .1) (f .factor .ensures) (e .before .load .ensures) (e .emissions .ensures)
     (c .main-engines .ensures .0) (c .main-engines .ensures .1)
 
-add-lower : tie.Need-add-lower
-add-lower c = omega (arith, lower-asked (c .before .before) .emitted)
+add-low : tie.Need-add-low
+add-low c = omega (arith, lower-asked (c .before .before) .emitted)
 
-lower-requires : tie.Need-lower-requires
-lower-requires c κs = lower-asked (c .before .before)
+add-high : tie.Need-add-high
+add-high c = omega (arith, upper-asked (c .before .before .before .before) .emitted)
 
-add-upper : tie.Need-add-upper
-add-upper c = omega (arith, upper-asked (c .before .before .before .before .before) .emitted)
-
-upper-requires : tie.Need-upper-requires
-upper-requires c κs = upper-asked (c .before .before .before .before .before)
+between-requires : tie.Need-between-requires
+between-requires c κs =
+    let m = c .before .before .before .before in
+    (lower-asked m, upper-asked m)
 
 returns : tie.Need-returns
 unfolding index-of figures
 returns c =
-    let l = c .before .before .before in
-    let m = l .before .before .before in
+    let m = c .before .before .before .before .before in
     let e = m .before .before .before in
     let f = e .before .before .before .before in
     let s = f .before in
     let length = four (s .args .s) _ (s .good .0) in
     rw (
-      l .lower .ensures ∙ lower-named (s .args .s) length (s .pre .0) (s .pre .1) (f .factor .ensures) (e .before .load .ensures) (e .emissions .ensures)
+      c .between .ensures .0 ∙ lower-named (s .args .s) length (s .pre .0) (s .pre .1) (f .factor .ensures) (e .before .load .ensures) (e .emissions .ensures)
           (m .main-engines .ensures .0) (m .main-engines .ensures .1),
-      c .upper .ensures ∙ upper-named (s .args .s) length (s .pre .0) (s .pre .1) (f .factor .ensures) (e .before .load .ensures) (e .emissions .ensures)
+      c .between .ensures .1 ∙ upper-named (s .args .s) length (s .pre .0) (s .pre .1) (f .factor .ensures) (e .before .load .ensures) (e .emissions .ensures)
           (m .main-engines .ensures .0) (m .main-engines .ensures .1),
     )
 
 pub attained-spec : {M : Type 1} → statement M
 attained-spec =
     tie.close
-    (tie.spec (λ c κs. search needs) (λ c κs. search needs) (λ c κs. search needs) main-engines-requires add-lower lower-requires add-upper upper-requires returns)
+    (tie.spec (λ c κs. search needs) (λ c κs. search needs) (λ c κs. search needs) main-engines-requires add-low add-high between-requires returns)
