@@ -25,7 +25,7 @@ pub struct Index {
 }
 
 // n / (load v c), rounded down and up: by load v to 63 bits, then by f_c times f_l in millionths, which is one rounding. Where that factor
-// is 1 nothing is left to divide by, and a digit less is the index.
+// is 1 nothing is left to divide by, and the quotient to a digit less is the index.
 fn both(n: u64, load: u64, v: u64, c: u64) -> Index
     requires { ⌜ Sized n load v c ⌝ }
     ensures { λ r. ⌜ r .lower ≡ index-down n load v c ⌝ }
