@@ -4,7 +4,7 @@ use Prim.Native.Nat.{ℕ, zero, suc, _+_, _*_, _/_, _%_, _^_, _-_, _≤_, _<_}
 use mathlib.Core.Path.{_≡_, refl, sym, ap, _∙_}
 use mathlib.Core.List.{List, [], _∷_, _++_, append-nil}
 use mathlib.Core.Bool.{Bool, true, false}
-use native.Mathlib.Nat.{pow-succ'}
+use native.Mathlib.Nat.{pow-succ', one-le-pow, lt-of-not-le}
 use native.Mathlib.Numerals.{add-one}
 use native.Mathlib.Omega.{arith}
 use borrow.Author.Tests.{ltb-true, ltb-false, lt-ltb, le-ltb}
@@ -68,43 +68,44 @@ decimal-one m n e = sym (value-decimal m) ∙ ap value e ∙ value-decimal n
 
 -- ── How many ────────────────────────────────────────────────────────────────────────────────
 
--- The digits that are left where a number n is cut off from its end: of 0 there are none.
-abbrev pub more : ℕ → ℕ
-more zero = 0
-more (suc m) = length (decimal (suc m))
+width-small : (n : ℕ) → n < 10 → length (decimal n) ≡ 1
+width-small n h = rw (decimal-small n h)
 
-more-is : (n : ℕ) → 0 < n → more n ≡ length (decimal n)
-more-is zero h = absurd (omega arith)
-more-is (suc m) h = refl
+width-large : (n : ℕ) → 10 ≤ n → length (decimal n) ≡ length (decimal (n / 10)) + 1
+width-large n h = rw (decimal-large n h, length-append (decimal (n / 10)) (digit (n % 10) ∷ []))
 
-pub width-step : (n : ℕ) → length (decimal n) ≡ 1 + more (n / 10)
-width-step n = by-size (ltb n 10) refl
+pub width-least : (n : ℕ) → 0 < length (decimal n)
+width-least n = by-size (ltb n 10) refl
   where
-    by-size : (b : Bool) → ltb n 10 ≡ b → length (decimal n) ≡ 1 + more (n / 10)
-    by-size true e =
-        let h = ltb-true n 10 e in
-        let z : n / 10 ≡ 0 = omega arith in
-        rw (decimal-small n h, z)
-    by-size false e =
-        let h = ltb-false n 10 e in
-        rw (decimal-large n h, length-append (decimal (n / 10)) (digit (n % 10) ∷ []), more-is (n / 10) (omega arith)) (omega arith)
+    by-size : (b : Bool) → ltb n 10 ≡ b → 0 < length (decimal n)
+    by-size true e = omega (arith, width-small n (ltb-true n 10 e))
+    by-size false e = omega (arith, width-large n (ltb-false n 10 e))
 
-pub more-step : (n : ℕ) → 0 < n → more n ≡ 1 + more (n / 10)
-more-step n h = more-is n h ∙ width-step n
+-- A number below 10^k has at most k digits (but 0 has one, where k is 0), and one from 10^k on has more.
+pub width-within : (k n : ℕ) → 0 < k → n < 10 ^ k → length (decimal n) ≤ k
+width-within zero n p h = absurd (omega arith)
+width-within (suc zero) n p h = omega (arith, width-small n h)
+width-within (suc (suc k)) n p h =
+    let t : n < 10 * 10 ^ suc k = rw (pow-succ' 10 (suc k)) at h in
+    by-size (ltb n 10) refl (width-within (suc k) (n / 10) (omega arith) (omega arith))
+  where
+    by-size : (b : Bool) → ltb n 10 ≡ b → length (decimal (n / 10)) ≤ suc k → length (decimal n) ≤ suc (suc k)
+    by-size true e ih = omega (arith, width-small n (ltb-true n 10 e))
+    by-size false e ih = omega (arith, width-large n (ltb-false n 10 e))
 
-more-bound : (k n : ℕ) → more (n / 10) ≤ k → more n ≤ suc k
-more-bound k zero h = omega arith
-more-bound k (suc m) h = omega (arith, more-step (suc m) (omega arith))
+pub width-beyond : (k n : ℕ) → 10 ^ k ≤ n → k < length (decimal n)
+width-beyond zero n h = width-least n
+width-beyond (suc k) n h =
+    let t : 10 * 10 ^ k ≤ n = rw pow-succ' at h in
+    omega (arith, width-large n (omega (arith, one-le-pow k 10 (omega arith))), width-beyond k (n / 10) (omega arith))
 
-pub more-limit : (k n : ℕ) → n < 10 ^ k → more n ≤ k
-more-limit zero n h = let z : n ≡ 0 = omega arith in rw z (omega arith)
-more-limit (suc k) n h =
-    let p : n < 10 * 10 ^ k = rw pow-succ' at h in
-    more-bound k n (more-limit k (n / 10) (omega arith))
+-- So a number is below the power of ten that has a zero for each of its digits.
+pub below-width : (n : ℕ) → n < 10 ^ length (decimal n)
+below-width n = lt-of-not-le (λ h. omega (arith, width-beyond (length (decimal n)) n h))
 
 -- A 64-bit number has at most 20 digits.
 pub width-limit : (n : ℕ) → n < 2 ^ 64 → length (decimal n) ≤ 20
-width-limit n h = omega (arith, width-step n, more-limit 19 (n / 10) (omega arith))
+width-limit n h = width-within 20 n (omega arith) (omega arith)
 
 -- ── From the last digit to the first ────────────────────────────────────────────────────────
 
@@ -147,6 +148,42 @@ stored-again (suc l) rest part D h k e =
     let z : suc l - 1 ≡ l = omega arith in
     rw z (ap (λ (ys : List ℕ). last-digits l (rest / 10) ++ ys) s ∙ sym (append-snoc (last-digits l (rest / 10)) d (drop (suc l) part)) ∙ e)
 
+-- The two before them stored, the last first.
+pub stored-pair : (left rest : ℕ) (part D : List ℕ) → 1 < left → left ≤ length part → last-digits left rest ++ drop left part ≡ D
+    → last-digits (left - 2) (rest / 100)
+    ++ drop (left - 2) (set (set part (left - 2 + 1) (digit (rest % 100 % 10))) (left - 2) (digit (rest % 100 / 10)))
+    ≡ D
+stored-pair left rest part D h k e =
+    let one = set part (left - 1) (digit (rest % 10)) in
+    let l : length one ≡ length part = length-set part (left - 1) (digit (rest % 10)) in
+    let t = stored-again (left - 1) (rest / 10) one D (omega arith) (omega arith) (stored-again left rest part D (omega arith) k e) in
+    let a : left - 1 - 1 ≡ left - 2 = omega arith in
+    let b : left - 1 ≡ left - 2 + 1 = omega arith in
+    let q : rest / 10 / 10 ≡ rest / 100 = omega arith in
+    let d : rest / 10 % 10 ≡ rest % 100 / 10 = omega arith in
+    let u : rest % 10 ≡ rest % 100 % 10 = omega arith in
+    rw (← b, ← a, ← q, ← d, ← u) t
+
+-- And the number that is left has two digits less.
+pub pair-cut : (left rest : ℕ) → 1 < left → rest < 10 ^ left → rest / 100 < 10 ^ (left - 2)
+pair-cut zero rest h b = absurd (omega arith)
+pair-cut (suc zero) rest h b = absurd (omega arith)
+pair-cut (suc (suc l)) rest h b =
+    let z : suc (suc l) - 2 ≡ l = omega arith in
+    let t : rest < 10 * (10 * 10 ^ l) = rw (pow-succ' 10 (suc l), pow-succ' 10 l) at b in
+    rw z (omega arith)
+
 pub stored-end : (rest : ℕ) (part D : List ℕ) → last-digits 0 rest ++ drop 0 part ≡ D → part ≡ D
 unfolding last-digits
 stored-end rest part D e = e
+
+-- The first digit, where it is left alone.
+module _ (left rest : ℕ) (one : left ≡ 1) (b : rest < 10 ^ left) where
+  pub first-digit : rest < 10
+  first-digit = rw one at b
+
+  pub stored-first : (part D : List ℕ) → left ≤ length part → last-digits left rest ++ drop left part ≡ D → set part 0 (digit rest) ≡ D
+  stored-first part D k e =
+      let d : rest % 10 ≡ rest = omega (arith, first-digit) in
+      let t = stored-again 1 rest part D (omega arith) (omega arith) (rw one at e) in
+      stored-end (rest / 10) (set part 0 (digit rest)) D (rw d at t)

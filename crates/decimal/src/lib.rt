@@ -5,31 +5,40 @@ ghost use Prim.Native.Nat.{_+_, _≤_};
 ghost use lib.ListN.{length};
 ghost use Rattle.decimal.specs.Digits.{decimal, Put};
 
-// How many digits n has.
+// How many digits n has, told by powers of ten: divisions would each wait for the one before. 10^20 is beyond 64 bits.
 fn width(n: u64) -> usize
     ensures { λ r. ⌜ r ≡ length (decimal n) ⌝ }
     ensures { λ r. ⌜ r ≤ 20 ⌝ }
 {
     let mut digits = 1;
-    let mut rest = n / 10;
-    while 0 < rest {
-        rest = rest / 10;
+    let mut bound = 1;
+    while digits < 20 {
+        bound = bound * 10;
+        if n < bound {
+            return digits;
+        }
         digits += 1;
     }
     digits
 }
 
-// The part becomes the digits of n, which are found from the last to the first.
+// The part becomes the digits of n, which are found from the last to the first, two a turn: only `rest` waits for the
+// turn before. An odd number of them leaves the first.
 fn put_digits(part: &mut [u8], n: u64)
     requires { ⌜ length (now part) ≡ length (decimal n) ⌝ }
     ensures { λ r. ⌜ now (part .exit) ≡ decimal n ⌝ }
 {
     let mut left = part.len();
     let mut rest = n;
-    while 0 < left {
-        left -= 1;
-        part[left] = 48 + (rest % 10) as u8;
-        rest = rest / 10;
+    while 1 < left {
+        let pair = (rest % 100) as u8;
+        left -= 2;
+        part[left + 1] = 48 + pair % 10;
+        part[left] = 48 + pair / 10;
+        rest = rest / 100;
+    }
+    if left == 1 {
+        part[0] = 48 + rest as u8;
     }
 }
 

@@ -1,22 +1,33 @@
--- `decimal::width` meets its contract. Those that are counted and those of `rest` are the digits of n.
+-- `decimal::width` meets its contract. The bound is the power of ten that has `digits` digits, and n has as many or more.
 -- Assumes nothing.
-use Prim.Native.Nat.{_+_, _≤_}
-use mathlib.Core.Path.{_≡_}
-use lib.ListN.{length}
+use Prim.Native.Nat.{_*_, _^_, _-_, _≤_, _<_}
+use mathlib.Core.Path.{_≡_, refl}
+use native.Mathlib.Nat.{pow-suc, pow-le-pow-right}
+use native.Mathlib.Numerals.{add-one}
 use native.Mathlib.Omega.{arith}
+use lib.ListN.{length}
 use Rattle.decimal.specs.Digits.{decimal}
-use Rattle.decimal.proofs.Spelling.{more, width-step, more-step, width-limit}
+use Rattle.decimal.proofs.Spelling.{width-least, width-within, width-beyond, width-limit}
 use Rattle.decimal.proofs.width.Statement.{statement}
 use Rattle.decimal.proofs.width.Tie as tie
 
 abbrev Inv-loop : tie.InvT-loop
-Inv-loop n digits₀ rest₀ digits rest = (length (decimal n) ≡ digits + more rest) × (length (decimal n) ≤ 20)
+Inv-loop n digits₀ bound₀ digits bound =
+    (0 < digits) × (digits ≤ 20) × (digits ≤ length (decimal n)) × (bound * 10 ≡ 10 ^ digits)
 
 abbrev μ-loop : tie.MeasureT-loop
-μ-loop n digits₀ rest₀ digits rest = rest
+μ-loop n digits₀ bound₀ digits bound = 20 - digits
 
 loop-holds : tie.Need-loop-holds Inv-loop μ-loop
-loop-holds c = (width-step _, width-limit _ (omega arith))
+loop-holds c = (omega arith, omega arith, width-least _, refl)
+
+mul-bound : tie.Need-mul-bound Inv-loop μ-loop
+mul-bound c = omega (arith, pow-le-pow-right {n = 10} (omega arith) {i = c .before .loop .digits} {j = 19} (omega arith))
+
+returns : tie.Need-returns Inv-loop μ-loop
+returns c =
+    let l = c .before .before in
+    omega (arith, width-within (l .loop .digits) (l .before .args .n) (omega arith) (omega arith))
 
 add-digits : tie.Need-add-digits Inv-loop μ-loop
 add-digits c = omega arith
@@ -25,14 +36,16 @@ loop-less : tie.Need-loop-less Inv-loop μ-loop
 loop-less c = omega arith
 
 loop-again : tie.Need-loop-again Inv-loop μ-loop
-loop-again c = (omega (arith, more-step (c .before .loop .rest) (omega arith)), c .before .loop .inv .1)
+loop-again c =
+    let l = c .before .before in (
+      omega arith,
+      omega arith,
+      omega (arith, width-beyond (l .loop .digits) (l .before .args .n) (omega arith)),
+      rw (add-one, pow-suc) (omega arith),
+    )
 
-returns : tie.Need-returns Inv-loop μ-loop
-returns c =
-    let l = c .before in
-    let z : l .loop .rest ≡ 0 = omega arith in
-    let e : length (decimal (l .before .args .n)) ≡ l .loop .digits + 0 = rw z at (l .loop .inv .0) in
-    omega arith
+returns-2 : tie.Need-returns-2 Inv-loop μ-loop
+returns-2 c = omega (arith, width-limit (c .before .before .args .n) (omega arith))
 
 pub width-spec : {M : Type 1} → statement M
-width-spec = tie.close (tie.spec Inv-loop μ-loop loop-holds add-digits loop-less loop-again returns)
+width-spec = tie.close (tie.spec Inv-loop μ-loop loop-holds mul-bound returns add-digits loop-less loop-again returns-2)
