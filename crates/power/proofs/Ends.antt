@@ -63,9 +63,13 @@ pub order-ends : (lo : ℕ) → with-margin lo .lo ≤ with-margin lo .hi
 unfolding with-margin
 order-ends lo = omega arith
 
--- r moved down by 33 - k places, of which there are 14 at least.
-pub moved-high : (r j : ℕ) → r < 2 ^ 64 → 14 ≤ j → r / 2 ^ j < 2 ^ 50
-moved-high r j h few = div-lt-iff-lt-mul (pow-pos j) .1 (lt-of-lt-of-le h (le-trans (lit≤ {m = 2 ^ 64} {n = 2 ^ 50 * 2 ^ 14} tt) (mul-le-mul-left (2 ^ 50) (pow-mono few))))
+-- lo is r moved down by j places, of which there are 14 at least and 33 at most.
+pub moved-high : (r j lo : ℕ) → lo * 2 ^ j ≤ r → r < 2 ^ 64 → 14 ≤ j → lo < 2 ^ 50
+moved-high r j lo down h some =
+    let a : lo * 2 ^ 14 ≤ lo * 2 ^ j = mul-le-mul-left lo (pow-mono some) in
+    omega arith
 
-pub moved-low : (r j : ℕ) → 2 ^ 63 ≤ r → j ≤ 33 → 2 ^ 30 ≤ r / 2 ^ j
-moved-low r j h few = le-div-iff-mul-le (pow-pos j) .1 (le-trans (mul-le-mul-left (2 ^ 30) (pow-mono {j = 33} few)) h)
+pub moved-low : (r j lo : ℕ) → r < (lo + 1) * 2 ^ j → 2 ^ 63 ≤ r → j ≤ 33 → 2 ^ 30 ≤ lo
+moved-low r j lo up h few =
+    let a : (lo + 1) * 2 ^ j ≤ (lo + 1) * 2 ^ 33 = mul-le-mul-left (lo + 1) (pow-mono few) in
+    omega arith
