@@ -1,18 +1,17 @@
 -- The law of the plain power. Assumes nothing.
-use mathlib.Core.Path.{_≡_, refl, sym}
+use mathlib.Core.Path.{_≡_, refl}
 use mathlib.Core.Bool.{Bool, true, false}
 use Prim.Native.Nat.{ℕ, _+_, _*_, _^_, _≤_, _<_}
-use native.Mathlib.Nat.{le-trans, le-refl, le-of-eq, mul-comm, suc-pred-eq-of-pos, div-mul-le-self, lt-div-mul-add, div-lt-iff-lt-mul}
+use native.Mathlib.Nat.{div-mul-le-self, lt-div-mul-add, div-lt-iff-lt-mul}
 use native.Mathlib.Omega.{arith}
-use lib.Dec.{eqb, lit<, lit≤}
+use lib.Dec.{eqb, lit<}
 use borrow.Author.Tests.{eqb-true, eqb-false}
 use Rattle.formula.specs.Words.{if}
-use Rattle.formula.specs.Formula.{_//_, _≼_, Side, below, above, other, lies, lies-power}
+use Rattle.formula.specs.Formula.{_//_, _≼_, below, above, other, lies}
 use Rattle.formula.proofs.Fractions.{≼-refl, over-≼}
 use Rattle.formula.proofs.Formulas.{power-between}
-use Rattle.formula.proofs.Powers.{power-base, power-out, power-below, power-above, up-below, up-above, whole-below, whole-above}
+use Rattle.formula.proofs.Powers.{power-base, up-below, up-above}
 use Rattle.plain_power.specs.declared.Pair.{Pair}
-use Rattle.power.specs.Numbers.{unit}
 use Rattle.power.specs.Power.{BoundsPower, Raisable, one, power-of, Power}
 use Rattle.power.proofs.Laws.{ordered, overlap, one-is, power-law}
 use Rattle.plain_power.specs.Numbers.{val}

@@ -1,18 +1,15 @@
 -- What takes a number to 2^63: digit after digit of an exponent of 2, and it stays below. Assumes nothing.
-use mathlib.Core.Path.{_≡_, refl, sym, ap, _∙_}
+use mathlib.Core.Path.{_≡_, refl, ap}
 use mathlib.Core.List.{List}
-use Prim.Native.Nat.{ℕ, suc, _+_, _-_, _*_, _/_, _%_, _^_, _≤_, _<_}
-use native.Mathlib.Nat.{mod-eq-of-lt, le-trans, le-of-eq, le-of-lt, lt-of-lt-of-le, lt-of-not-le, not-le-of-lt, mul-lt-mul-of-pos-right, mul-le-mul-left, mul-le-mul-right, mul-pos, le-of-mul-le-mul-right, zero-add}
-use native.Mathlib.Decide.{decLe}
+use Prim.Native.Nat.{ℕ, _+_, _-_, _*_, _/_, _^_, _≤_, _<_}
+use native.Mathlib.Nat.{le-trans, le-of-eq, le-of-lt, mul-le-mul-left, mul-le-mul-right, mul-pos, le-of-mul-le-mul-right, zero-add}
 use native.Mathlib.Omega.{arith}
-use lib.Dec.{lit≤, lit<}
-use lib.Pow.{pow-add, pow-mono, pow-pos}
-use lib.Count.{leadingZeros, leading-top}
+use lib.Dec.{lit≤}
 use lib.ListN.{getD}
 use Rattle.power.specs.declared.Climb.{Climb}
-use Rattle.power.specs.Table.{coarses, middles, fines}
+use Rattle.power.specs.Table.{coarses}
 use Rattle.power.specs.Steps.{times-of, first-digit, digit-of, first-of, climbed-of, step-of, second-of, third-of, inverse-slope, short, complement-of}
-use Rattle.power.proofs.Twos.{AtMost, AtLeast, most-mul, least-mul, most-down, least-up, least-none, turn-least, turn-most}
+use Rattle.power.proofs.Twos.{AtMost, AtLeast, most-mul, least-mul, most-down, least-up}
 use Rattle.power.proofs.Entries.{Factor, Takes, first-left, second-left, third-left, coarse-is, middle-is, fine-is, middle-takes, fine-takes, start-is, rest-least, rest-most}
 use Rattle.power.proofs.Products.{times-down, times-up, Grown, none-grown, times-grown}
 

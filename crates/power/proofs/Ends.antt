@@ -1,10 +1,10 @@
 -- The two ends of a power, from a power of 2 and the margin. Assumes nothing.
 use mathlib.Core.Path.{_≡_, sym, ap, _∙_}
 use Prim.Native.Nat.{ℕ, _+_, _*_, _/_, _^_, _≤_, _<_}
-use native.Mathlib.Nat.{le-trans, lt-of-lt-of-le, mul-le-mul-left, mul-le-mul-right, le-of-mul-le-mul-right, le-div-iff-mul-le, div-lt-iff-lt-mul}
+use native.Mathlib.Nat.{mul-le-mul-left, mul-le-mul-right, le-of-mul-le-mul-right}
 use native.Mathlib.Omega.{arith}
 use lib.Dec.{lit≤}
-use lib.Pow.{pow-add, pow-mono, pow-pos}
+use lib.Pow.{pow-add, pow-mono}
 use Rattle.power.specs.Steps.{with-margin}
 use Rattle.power.specs.Power.{places, gap}
 use Rattle.power.proofs.Twos.{AtMost, AtLeast, most-mul, least-mul, most-down, least-up, most-whole, least-whole}

@@ -1,5 +1,5 @@
 -- A rule of a table, proved at all of its places by one test that antt computes. Assumes nothing.
-use mathlib.Core.Path.{subst, sym}
+use mathlib.Core.Path.{subst}
 use mathlib.Core.Bool.{Bool, true, false}
 use Prim.Native.Nat.{ℕ, zero, suc, _<_}
 use native.Mathlib.Nat.{le-of-suc-le-suc, not-suc-le-zero, le-antisymm, lt-of-not-le}
