@@ -13,7 +13,7 @@
 
 #include "yagmurzol.h"
 
-/* The bytes of the small stack: near twice what a call uses with one running pair, and over a third less than it needed with every root
+/* The bytes of the small stack: near twice what a call uses, and over a third less than it needed with every root
    of a power on the stack. */
 #define SMALL ((size_t)3072)
 /* The closed memory below: a multiple of every size of page, and more than a function's own part of the stack would reach across. */

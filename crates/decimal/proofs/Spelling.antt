@@ -4,7 +4,7 @@ use Prim.Native.Nat.{ℕ, zero, suc, _+_, _*_, _/_, _%_, _^_, _-_, _≤_, _<_}
 use mathlib.Core.Path.{_≡_, refl, sym, ap, _∙_}
 use mathlib.Core.List.{List, [], _∷_, _++_, append-nil}
 use mathlib.Core.Bool.{Bool, true, false}
-use native.Mathlib.Nat.{pow-succ', one-le-pow, lt-of-not-le}
+use native.Mathlib.Nat.{pow-succ', one-le-pow}
 use native.Mathlib.Numerals.{add-one}
 use native.Mathlib.Omega.{arith}
 use borrow.Author.Tests.{ltb-true, ltb-false, lt-ltb, le-ltb}
@@ -99,10 +99,6 @@ width-beyond (suc k) n h =
     let t : 10 * 10 ^ k ≤ n = rw pow-succ' at h in
     omega (arith, width-large n (omega (arith, one-le-pow k 10 (omega arith))), width-beyond k (n / 10) (omega arith))
 
--- So a number is below the power of ten that has a zero for each of its digits.
-pub below-width : (n : ℕ) → n < 10 ^ length (decimal n)
-below-width n = lt-of-not-le (λ h. omega (arith, width-beyond (length (decimal n)) n h))
-
 -- A 64-bit number has at most 20 digits.
 pub width-limit : (n : ℕ) → n < 2 ^ 64 → length (decimal n) ≤ 20
 width-limit n h = width-within 20 n (omega arith) (omega arith)
@@ -148,42 +144,6 @@ stored-again (suc l) rest part D h k e =
     let z : suc l - 1 ≡ l = omega arith in
     rw z (ap (λ (ys : List ℕ). last-digits l (rest / 10) ++ ys) s ∙ sym (append-snoc (last-digits l (rest / 10)) d (drop (suc l) part)) ∙ e)
 
--- The two before them stored, the last first.
-pub stored-pair : (left rest : ℕ) (part D : List ℕ) → 1 < left → left ≤ length part → last-digits left rest ++ drop left part ≡ D
-    → last-digits (left - 2) (rest / 100)
-    ++ drop (left - 2) (set (set part (left - 2 + 1) (digit (rest % 100 % 10))) (left - 2) (digit (rest % 100 / 10)))
-    ≡ D
-stored-pair left rest part D h k e =
-    let one = set part (left - 1) (digit (rest % 10)) in
-    let l : length one ≡ length part = length-set part (left - 1) (digit (rest % 10)) in
-    let t = stored-again (left - 1) (rest / 10) one D (omega arith) (omega arith) (stored-again left rest part D (omega arith) k e) in
-    let a : left - 1 - 1 ≡ left - 2 = omega arith in
-    let b : left - 1 ≡ left - 2 + 1 = omega arith in
-    let q : rest / 10 / 10 ≡ rest / 100 = omega arith in
-    let d : rest / 10 % 10 ≡ rest % 100 / 10 = omega arith in
-    let u : rest % 10 ≡ rest % 100 % 10 = omega arith in
-    rw (← b, ← a, ← q, ← d, ← u) t
-
--- And the number that is left has two digits less.
-pub pair-cut : (left rest : ℕ) → 1 < left → rest < 10 ^ left → rest / 100 < 10 ^ (left - 2)
-pair-cut zero rest h b = absurd (omega arith)
-pair-cut (suc zero) rest h b = absurd (omega arith)
-pair-cut (suc (suc l)) rest h b =
-    let z : suc (suc l) - 2 ≡ l = omega arith in
-    let t : rest < 10 * (10 * 10 ^ l) = rw (pow-succ' 10 (suc l), pow-succ' 10 l) at b in
-    rw z (omega arith)
-
 pub stored-end : (rest : ℕ) (part D : List ℕ) → last-digits 0 rest ++ drop 0 part ≡ D → part ≡ D
 unfolding last-digits
 stored-end rest part D e = e
-
--- The first digit, where it is left alone.
-module _ (left rest : ℕ) (one : left ≡ 1) (b : rest < 10 ^ left) where
-  pub first-digit : rest < 10
-  first-digit = rw one at b
-
-  pub stored-first : (part D : List ℕ) → left ≤ length part → last-digits left rest ++ drop left part ≡ D → set part 0 (digit rest) ≡ D
-  stored-first part D k e =
-      let d : rest % 10 ≡ rest = omega (arith, first-digit) in
-      let t = stored-again 1 rest part D (omega arith) (omega arith) (rw one at e) in
-      stored-end (rest / 10) (set part 0 (digit rest)) D (rw d at t)

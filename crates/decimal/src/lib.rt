@@ -22,23 +22,18 @@ fn width(n: u64) -> usize
     digits
 }
 
-// The part becomes the digits of n, which are found from the last to the first, two a turn: only `rest` waits for the
-// turn before. An odd number of them leaves the first.
+// The part becomes the digits of n, which are found from the last to the first. (Two a turn take fewer instructions and no less time: their number
+// being odd or even is one more guess.)
 fn put_digits(part: &mut [u8], n: u64)
     requires { ⌜ length (now part) ≡ length (decimal n) ⌝ }
     ensures { λ r. ⌜ now (part .exit) ≡ decimal n ⌝ }
 {
     let mut left = part.len();
     let mut rest = n;
-    while 1 < left {
-        let pair = (rest % 100) as u8;
-        left -= 2;
-        part[left + 1] = 48 + pair % 10;
-        part[left] = 48 + pair / 10;
-        rest = rest / 100;
-    }
-    if left == 1 {
-        part[0] = 48 + rest as u8;
+    while 0 < left {
+        left -= 1;
+        part[left] = 48 + (rest % 10) as u8;
+        rest = rest / 10;
     }
 }
 
