@@ -73,12 +73,14 @@ pub fn speeds(s: Ship) -> SpeedBounds
     ensures { λ r. ⌜ r ≡ speeds-of (figures s) ⌝ }
 {
     let p = s.particulars;
+    let deadweight = p.deadweight;
+    let run = p.trial;
     let power = plant::powers(s);
-    let most = speed::speed(p, s.speed.high, power.low);
+    let most = speed::speed(p.kind, deadweight, p.method, run, s.speed.high, power.low);
     if (s.speed.low == s.speed.high) & (power.low == power.high) {
         return SpeedBounds { most, least: most };
     }
-    let least = speed::speed(p, s.speed.low, power.high);
+    let least = speed::speed(p.kind, deadweight, p.method, run, s.speed.low, power.high);
     SpeedBounds { most, least }
 }
 

@@ -3,7 +3,6 @@ use power::Bounds;
 use propeller::Split;
 use propeller::speed_from;
 use ship::Deadweight;
-use ship::Particulars;
 use ship::Trial;
 use statistical::statistical;
 ghost use mathlib.Core.Path.{_≡_};
@@ -125,22 +124,27 @@ fn design(v: u64, trial: Trial, kind: u64, deadweight: Deadweight, power: u64) -
     speed_from(parts, power, trial.power * 100)
 }
 
-// V_ref of a record with the speed v, in 1/100 knot, and the sum of P_ME, in 1/100 kW. What it asks, rules 5, 6, 9, 13 and 15 leave.
-pub fn speed(p: Particulars, v: u64, power: u64) -> Bounds
-    requires { ⌜ Listed (p .kind) × Within 1 4 (p .method) × Accepted-speed (method-of (p .method) v (p .trial)) (kind-of (p .kind)) (deadweight-of (p .deadweight)) power ⌝ }
-    ensures { λ r. ⌜ r ≡ speed-by (method-of (p .method) v (p .trial)) (kind-of (p .kind)) (deadweight-of (p .deadweight)) power ⌝ }
+// V_ref by a record's method, with the speed v in 1/100 knot and the sum of P_ME in 1/100 kW. What it asks, rules 5, 6, 9, 13 and 15 leave. It is
+// handed what it reads and not the record, which would be laid on the stack for each call.
+pub fn speed(
+    kind: u64,
+    deadweight: Deadweight,
+    method: u64,
+    run: Trial,
+    v: u64,
+    power: u64,
+) -> Bounds
+    requires { ⌜ Listed kind × Within 1 4 method × Accepted-speed (method-of method v run) (kind-of kind) (deadweight-of deadweight) power ⌝ }
+    ensures { λ r. ⌜ r ≡ speed-by (method-of method v run) (kind-of kind) (deadweight-of deadweight) power ⌝ }
 {
-    let method = p.method;
-    let deadweight = p.deadweight;
-    let trial_run = p.trial;
     match method {
         1 => Bounds {
             lo: v * 10000,
             hi: v * 10000,
         },
-        2 => trial(v, trial_run.power, power),
-        3 => design(v, trial_run, p.kind, deadweight, power),
-        4 => statistical(p.kind, deadweight, power),
+        2 => trial(v, run.power, power),
+        3 => design(v, run, kind, deadweight, power),
+        4 => statistical(kind, deadweight, power),
         _ => Bounds { lo: 0, hi: 0 },
     }
 }
