@@ -76,24 +76,25 @@ pub(crate) fn {name}(i: u64) -> u64
     return text
 
 
-def proof(name, entries):
-    last = len(entries) - 1
+def match_proof(room, name, listed, count):
+    """The proof of a match over a table, an arm for an entry."""
+    last = count - 1
     arms = " ".join(f"(λ c. arm (c .before .args .i) {at} (c .match .keys{at + 1}))" for at in range(last))
-    return f"""-- `power::table::{name}` meets its contract: each arm has the entry at its own place, and the last is left for the last. Assumes nothing.
+    return f"""-- `{room}::table::{name}` meets its contract: each arm has the entry at its own place, and the last is left for the last. Assumes nothing.
 use mathlib.Core.Path.{{_≡_}}
 use Prim.Native.Nat.{{ℕ}}
 use native.Mathlib.Omega.{{arith}}
 use lib.ListN.{{getD}}
-use Rattle.power.specs.Table.{{{name}s}}
-use Rattle.power.proofs.Arms.{{past}}
-use Rattle.power.proofs.table.{name}.Statement.{{statement}}
-use Rattle.power.proofs.table.{name}.Tie as tie
+use Rattle.formula.proofs.Tables.{{past}}
+use Rattle.{room}.specs.Table.{{{listed}}}
+use Rattle.{room}.proofs.table.{name}.Statement.{{statement}}
+use Rattle.{room}.proofs.table.{name}.Tie as tie
 
-arm : (i k : ℕ) → i ≡ k → getD {name}s k 0 ≡ getD {name}s i 0
+arm : (i k : ℕ) → i ≡ k → getD {listed} k 0 ≡ getD {listed} i 0
 arm i k e = rw e
 
 pub {name}-spec : {{M : Type 1}} → statement M
-unfolding {name}s
+unfolding {listed}
 {name}-spec =
     tie.close
     (tie.spec
@@ -102,19 +103,21 @@ unfolding {name}s
 """
 
 
-def main():
-    parts = [(name, k, part(k, count)) for name, k, count in PARTS]
-    files = {"specs/Table.antt": listed(parts), "src/table.rt": functions(parts)}
-    for name, _, entries in parts:
-        files[f"proofs/table/{name}/Proof.antt"] = proof(name, entries)
+def hold(room, files):
+    """Writes the files of a room, or says whether they are these."""
     for name, text in files.items():
-        path = os.path.join(ROOT, ROOM, name)
+        path = os.path.join(ROOT, room, name)
         if sys.argv[1:] == ["--check"]:
             if open(path, encoding="utf-8").read() != text:
-                sys.exit(f"table: {ROOM}/{name} isn't what tests/table.py writes")
+                sys.exit(f"{os.path.basename(sys.argv[0])}: {room}/{name} isn't what it writes")
         else:
             os.makedirs(os.path.dirname(path), exist_ok=True)
             open(path, "w", encoding="utf-8").write(text)
 
 
-main()
+if __name__ == "__main__":
+    parts = [(name, k, part(k, count)) for name, k, count in PARTS]
+    files = {"specs/Table.antt": listed(parts), "src/table.rt": functions(parts)}
+    for name, _, entries in parts:
+        files[f"proofs/table/{name}/Proof.antt"] = match_proof("power", name, f"{name}s", len(entries))
+    hold(ROOM, files)

@@ -1,4 +1,5 @@
 pub mod Wholes
+pub mod Tables
 pub mod Fractions
 pub mod Formulas
 pub mod Order

@@ -1,7 +1,7 @@
 // Works out the cases that it reads, for the tests from outside: a case is five little-endian words of 8 bytes, what is
 // asked and up to four numbers, and its answer is a line of numbers, or `-` where the numbers are outside the function's domain.
-// Asked is 1 the square root of a; 2 its cube root; 3 the cube root of a/b; 4 a/b in millionths, rounded down and up;
-// 5 the power (a/b)^(c/d); 6 the plain power; 7 a/b in units of 10^-15, rounded down and up.
+// Asked is 1 the square root of a; 2 its plain cube root; 3 the cube root of a/b; 4 a/b in millionths, rounded down and up;
+// 5 the power (a/b)^(c/d); 6 the plain power; 7 a/b in units of 10^-15, rounded down and up; 8 the quick cube root of a.
 use fields::number_at;
 use libc::STDIN_FILENO;
 use libc::STDOUT_FILENO;
@@ -134,13 +134,14 @@ fn raised(plain: bool, a: u64, b: u64, p: u64, q: u64) {
 fn answer(k: Case) {
     let asked = k.asked;
     match asked {
-        1 => one(number::root::square_root(k.a)),
-        2 => one(number::root::cube_root(k.a)),
+        1 => one(root::square_root(k.a)),
+        2 => one(root::cube_root(k.a)),
         3 => ratio(k.a, k.b),
         4 => millionths(k.a, k.b),
         5 => raised(false, k.a, k.b, k.c, k.d),
         6 => raised(true, k.a, k.b, k.c, k.d),
         7 => long_quotient(k.a, k.b),
+        8 => one(quick_root::cube_root(k.a)),
         _ => outside(),
     }
 }

@@ -11,7 +11,7 @@ use lib.Pow.{pow-add, pow-pos, pow-mono}
 use borrow.Author.Tests.{leb-true, leb-false}
 use Rattle.formula.specs.Formula.{_//_, _≼_, Side, below, above, lies, at-most, at-least}
 use Rattle.number.specs.Division.{Floor}
-use Rattle.number.proofs.Roots.{Found, greatest-found}
+use Rattle.root.proofs.Roots.{Found, greatest-found}
 use Rattle.number.proofs.Divisions.{floor-unique}
 use Rattle.plain_power.specs.declared.Num.{Num}
 use Rattle.plain_power.specs.declared.Pair.{Pair}

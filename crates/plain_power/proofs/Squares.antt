@@ -11,8 +11,8 @@ use borrow.Author.Tests.{ltb-true, ltb-false}
 use Rattle.formula.specs.Words.{if}
 use Rattle.formula.specs.Formula.{Frac, _//_, _≼_, _·_, Side, below, above, lies, at-most, at-least}
 use Rattle.formula.proofs.Wholes.{square, root-lt}
-use Rattle.number.specs.Root.{Root}
-use Rattle.number.proofs.Roots.{root-of-is}
+use Rattle.root.specs.Root.{Root}
+use Rattle.root.proofs.Roots.{root-of-is}
 use Rattle.plain_power.specs.declared.Num.{Num}
 use Rattle.plain_power.specs.declared.Pair.{Pair}
 use Rattle.plain_power.specs.declared.Square.{Square}

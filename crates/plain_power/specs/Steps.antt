@@ -3,7 +3,7 @@
 use Prim.Native.Nat.{ℕ, zero, suc, _+_, _-_, _*_, _/_, _%_, _^_}
 use lib.Dec.{eqb, ltb, leb}
 use Rattle.formula.specs.Words.{if}
-use Rattle.number.specs.Root.{root-of, greatest}
+use Rattle.root.specs.Root.{root-of, greatest}
 use Rattle.plain_power.specs.declared.Num.{Num}
 use Rattle.plain_power.specs.declared.Pair.{Pair}
 use Rattle.plain_power.specs.declared.Square.{Square}

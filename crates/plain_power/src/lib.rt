@@ -3,7 +3,7 @@
 use power::Bounds;
 ghost use mathlib.Core.Path.{_≡_};
 ghost use Prim.Native.Nat.{_+_, _*_, _^_, _≤_, _<_};
-ghost use Rattle.number.specs.Root.{Root};
+ghost use Rattle.root.specs.Root.{Root};
 ghost use Rattle.plain_power.specs.Numbers.{val, Norm, Ready};
 ghost use Rattle.plain_power.specs.Steps.{evened-of, mean-of, means-of, digit-factor, unraised, raise-of, digits, cut-of, base-of};
 ghost use Rattle.power.specs.Power.{Raisable};
@@ -96,7 +96,7 @@ fn mantissa(n: u64, near: u64) -> u64
     requires { ⌜ (n < 2 ^ 62) × (789000000 ≤ near) × (near < 2 ^ 32) ⌝ }
     ensures { λ r. ⌜ Root 2 n r ⌝ }
 {
-    number::root::square_root_from(n, (near + n / near) / 2)
+    root::square_root_from(n, (near + n / near) / 2)
 }
 
 // The geometric mean, rounded down. The start is found from the product itself, so that it need not wait for the even exponent.

@@ -8,7 +8,7 @@ use lib.Dec.{leb, ltb, T, leb→le, ltb→lt, lit≤}
 use lib.ListN.{getD}
 use Rattle.power.specs.Table.{coarses, middles, fines}
 use Rattle.power.specs.Steps.{first-digit, slope, inverse-slope, short}
-use Rattle.power.proofs.Tests.{both, both-left, both-right, each, at}
+use Rattle.formula.proofs.Tables.{both, both-left, both-right, each, at}
 use Rattle.power.proofs.Twos.{AtMost, AtLeast, most-down, least-up, most-finer, least-finer, most-line, least-line}
 use Rattle.power.proofs.Chains.{squared-up, squared-down, up-most, down-least}
 

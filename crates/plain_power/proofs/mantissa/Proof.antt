@@ -4,7 +4,7 @@ use native.Mathlib.Nat.{mul-le-mul-left, div-mul-le-self, lt-of-not-le}
 use native.Mathlib.Decide.{decLe}
 use native.Mathlib.Omega.{arith}
 use borrow.Author.Needs.{needs}
-use Rattle.number.proofs.Newton.{newton}
+use Rattle.root.proofs.Newton.{newton-square}
 use Rattle.plain_power.proofs.mantissa.Statement.{statement}
 use Rattle.plain_power.proofs.mantissa.Tie as tie
 
@@ -21,7 +21,7 @@ add-square-root-from : tie.Need-add-square-root-from
 add-square-root-from c = omega (arith, step _ _ (c .pre .0) (c .pre .1) (c .pre .2))
 
 square-root-from-requires : tie.Need-square-root-from-requires
-square-root-from-requires c κs = (newton _ _ (omega arith), omega (arith, step _ _ (c .pre .0) (c .pre .1) (c .pre .2)))
+square-root-from-requires c κs = (newton-square _ _ (omega arith), omega (arith, step _ _ (c .pre .0) (c .pre .1) (c .pre .2)))
 
 pub mantissa-spec : {M : Type 1} → statement M
 mantissa-spec = tie.close (tie.spec (λ c. search needs) add-square-root-from square-root-from-requires (λ c. search needs))

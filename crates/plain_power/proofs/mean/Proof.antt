@@ -2,7 +2,7 @@
 use native.Mathlib.Nat.{zero-lt-suc}
 use native.Mathlib.Omega.{arith}
 use borrow.Author.Needs.{needs}
-use Rattle.number.proofs.Roots.{root-named}
+use Rattle.root.proofs.Roots.{root-named}
 use Rattle.plain_power.specs.Steps.{mean-of}
 use Rattle.plain_power.proofs.Squares.{product-low, product-high, product-evened}
 use Rattle.plain_power.proofs.mean.Statement.{statement}

@@ -6,7 +6,7 @@ use native.Mathlib.Omega.{arith}
 use lib.Dec.{leb, leb→le}
 use borrow.Author.Needs.{needs}
 use Rattle.power.specs.Steps.{first-digit}
-use Rattle.power.proofs.Tests.{at}
+use Rattle.formula.proofs.Tables.{at}
 use Rattle.power.proofs.first_digit.Statement.{statement}
 use Rattle.power.proofs.first_digit.Tie as tie
 

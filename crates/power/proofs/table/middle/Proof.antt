@@ -3,8 +3,8 @@ use mathlib.Core.Path.{_≡_}
 use Prim.Native.Nat.{ℕ}
 use native.Mathlib.Omega.{arith}
 use lib.ListN.{getD}
+use Rattle.formula.proofs.Tables.{past}
 use Rattle.power.specs.Table.{middles}
-use Rattle.power.proofs.Arms.{past}
 use Rattle.power.proofs.table.middle.Statement.{statement}
 use Rattle.power.proofs.table.middle.Tie as tie
 

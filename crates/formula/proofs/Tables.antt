@@ -1,7 +1,7 @@
--- A rule of a table, proved at all of its places by one test that antt computes. Assumes nothing.
-use mathlib.Core.Path.{subst}
+-- Tables: a rule proved at all places by one test that antt computes, and what the arms of a match leave. Assumes nothing.
+use mathlib.Core.Path.{_≡_, subst}
 use mathlib.Core.Bool.{Bool, true, false}
-use Prim.Native.Nat.{ℕ, zero, suc, _<_}
+use Prim.Native.Nat.{ℕ, zero, suc, _≤_, _<_, zero-le}
 use native.Mathlib.Nat.{le-of-suc-le-suc, not-suc-le-zero, le-antisymm, lt-of-not-le}
 use native.Mathlib.Decide.{decLe}
 use lib.Dec.{T}
@@ -32,3 +32,15 @@ at test (suc n) t k h =
           subst (λ (m : ℕ). T (test m)) (le-antisymm (le-of-suc-le-suc (lt-of-not-le i)) (le-of-suc-le-suc h))
           (both-right (each test n) (test n) t)
     ]
+
+-- ── A match on a number ─────────────────────────────────────────────────────────────────────
+
+-- What the arms of 0, 1, .. n - 1 leave of i.
+abbrev pub Rest : ℕ → ℕ → Type 0
+Rest i zero = Unit {0}
+Rest i (suc n) = Rest i n × (i ≡ n → ⊥)
+
+-- It is at least n.
+pub past : (i n : ℕ) → Rest i n → n ≤ i
+past i zero r = zero-le
+past i (suc n) r = elim (decLe (suc n) i) [ yes h ↦ h | no h ↦ absurd (r .1 (le-antisymm (le-of-suc-le-suc (lt-of-not-le h)) (past i n (r .0)))) ]

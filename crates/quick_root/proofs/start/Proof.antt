@@ -1,0 +1,43 @@
+-- `quick_root::start` meets its contract. Assumes nothing.
+use native.Mathlib.Omega.{arith}
+use borrow.Author.Needs.{needs}
+use borrow.Author.Tests.{lt-ltb, le-ltb}
+use Rattle.quick_root.proofs.Starts.{times-few, entry-number, entry-small, started}
+use Rattle.quick_root.proofs.start.Statement.{statement}
+use Rattle.quick_root.proofs.start.Tie as tie
+
+mul-entry : tie.Need-mul-entry
+mul-entry c = omega (arith, times-few (c .before .fits .n .fits) (c .eighths .ensures))
+
+shr-entry : tie.Need-shr-entry
+shr-entry c = omega (arith, times-few (c .before .fits .n .fits) (c .eighths .ensures))
+
+add-entry : tie.Need-add-entry
+add-entry c = omega (arith, entry-number (c .before .fits .n .fits) (c .eighths .ensures))
+
+entry-requires : tie.Need-entry-requires
+entry-requires c κs = entry-number (c .before .fits .n .fits) (c .eighths .ensures)
+
+add-x : tie.Need-add-x
+add-x c =
+    let at = c .before in
+    omega (arith, entry-small (entry-number (at .before .fits .n .fits) (at .eighths .ensures)) (c .entry .ensures))
+
+shl-x : tie.Need-shl-x
+shl-x c =
+    let at = c .before in
+    omega (arith, times-few (at .before .fits .n .fits) (at .eighths .ensures))
+
+returns : tie.Need-returns
+returns c =
+    let at = c .before .before in
+    started (at .before .fits .n .fits) (at .eighths .ensures) (c .before .entry .ensures) _ (simp (lt-ltb _ _ (c .if1 .taken)))
+
+returns-2 : tie.Need-returns-2
+returns-2 c =
+    let at = c .before .before in
+    started (at .before .fits .n .fits) (at .eighths .ensures) (c .before .entry .ensures) _ (simp (le-ltb _ _ (c .if1 .left)))
+
+pub start-spec : {M : Type 1} → statement M
+start-spec =
+    tie.close (tie.spec (λ c κs. search needs) mul-entry shr-entry add-entry entry-requires add-x shl-x returns returns-2)
