@@ -6,6 +6,8 @@
 mod power_cases;
 #[path = "powers.rs"]
 mod powers;
+#[path = "root_cases.rs"]
+mod root_cases;
 
 use powers::{agree, is_power, Tally, UNIT};
 use std::cmp::Ordering;
@@ -68,9 +70,9 @@ impl Big {
     }
 }
 
-// The greatest r up to 2^32 with power(r) at most n.
+// The greatest r up to 2^32 with power(r) at most n; a power beyond 128 bits is more.
 fn whole_root(n: u64, exponent: u32) -> u64 {
-    let at_most = |r: u64| (0..exponent).fold(Big::of(1), |p, _| p.times(&Big::of(r as u128))).against(&Big::of(n as u128)) != Ordering::Greater;
+    let at_most = |r: u64| (r as u128).checked_pow(exponent).map_or(false, |power| power <= n as u128);
     let (mut low, mut high) = (0u64, 1u64 << 32);
     while high - low > 1 {
         let middle = (low + high) / 2;
@@ -80,34 +82,37 @@ fn whole_root(n: u64, exponent: u32) -> u64 {
 }
 
 // What can be asked, and how many of each there have to be. Of a ratio of 1, and of the next one above it, more is expected:
-// these are kinds of their own, and so is that the two powers agree.
-const KINDS: [(&str, u64); 13] = [
+// these are kinds of their own, and so is that the two powers agree, and the two cube roots.
+const KINDS: [(&str, u64); 15] = [
     ("square roots", 10_000),
-    ("cube roots", 10_000),
+    ("plain cube roots", 180_000),
     ("cube roots of ratios", 10_000),
     ("quotients of 10^6", 2_000),
     ("quick powers", 50_000),
     ("plain powers", 50_000),
     ("quotients of 10^15", 10_000),
+    ("quick cube roots", 180_000),
     ("cube roots of n/n", 2_000),
     ("quick powers of a/a", 10_000),
     ("plain powers of a/a", 10_000),
     ("quick powers of a/(a - 1)", 10_000),
     ("plain powers of a/(a - 1)", 10_000),
     ("quick powers against plain ones", 50_000),
+    ("quick cube roots against plain ones", 180_000),
 ];
-// Of each group of powers.
+// Of each group of powers and of cube roots.
 const FEWEST_OF_GROUP: u64 = 5_000;
-const BOTH_WAYS: usize = 12;
+const BOTH_POWERS: usize = 13;
+const BOTH_ROOTS: usize = 14;
 
 // The place in KINDS; None for what can't be asked.
 fn kind(case: &[u64; 5]) -> Option<usize> {
     match *case {
-        [3, n, d, ..] if n == d => Some(7),
-        [asked, a, b, ..] if (asked == 5 || asked == 6) && a == b => Some(asked as usize + 3),
+        [3, n, d, ..] if n == d => Some(8),
+        [asked, a, b, ..] if (asked == 5 || asked == 6) && a == b => Some(asked as usize + 4),
         // To the power 0 that is 1 again.
-        [asked, a, b, c, _] if (asked == 5 || asked == 6) && a.wrapping_sub(b) == 1 && c > 0 => Some(asked as usize + 5),
-        [asked, ..] if (1..=7).contains(&asked) => Some(asked as usize - 1),
+        [asked, a, b, c, _] if (asked == 5 || asked == 6) && a.wrapping_sub(b) == 1 && c > 0 => Some(asked as usize + 6),
+        [asked, ..] if (1..=8).contains(&asked) => Some(asked as usize - 1),
         _ => None,
     }
 }
@@ -119,7 +124,7 @@ fn fail(case: &[u64; 5], line: &str, why: &str) -> String {
 fn is_inside(case: &[u64; 5]) -> bool {
     let [asked, a, b, c, d] = *case;
     match asked {
-        1 | 2 => true,
+        1 | 2 | 8 => true,
         3 => b > 0 && a < 1 << 40 && b as u128 <= 8 * a as u128,
         4 => b > 0 && b <= 1_000_000_000_000_000_000 && a < 1 << 43,
         5 | 6 => powers::is_inside(a, b, c, d),
@@ -162,32 +167,41 @@ fn verdict(case: &[u64; 5], line: &str, slip: bool, tally: &mut Tally) -> Result
     }
     let right = match (kind(case), &numbers_of(line)[..]) {
         (Some(0), [r]) => *r == whole_root(a, 2) + shift,
-        (Some(1), [r]) => *r == whole_root(a, 3) + shift,
+        (Some(1), [r]) | (Some(7), [r]) => *r == whole_root(a, 3) + shift,
         (Some(2), [s, low, high]) => is_ratio_root(a, b, *s, *low, *high, shift),
         (Some(3), [low, high]) => is_quotient(a, b, 1_000_000, *low, *high, shift),
         (Some(4), [low, high]) | (Some(5), [low, high]) => is_power(case, *low, *high, slip, tally),
         (Some(6), [low, high]) => is_quotient(a, b, 1_000_000_000_000_000, *low, *high, shift),
-        (Some(7), [s, low, high]) => is_ratio_root(a, b, *s, *low, *high, 0) && [*low + shift, *high] == [*s, *s],
-        (Some(8), [low, high]) | (Some(9), [low, high]) => [*low, *high] == [UNIT + shift, UNIT],
+        (Some(8), [s, low, high]) => is_ratio_root(a, b, *s, *low, *high, 0) && [*low + shift, *high] == [*s, *s],
+        (Some(9), [low, high]) | (Some(10), [low, high]) => [*low, *high] == [UNIT + shift, UNIT],
         // However near to 1, it is above.
-        (Some(10), [low, high]) | (Some(11), [low, high]) if slip => is_power(case, *low, *high, slip, tally) || *high <= UNIT,
-        (Some(10), [low, high]) | (Some(11), [low, high]) => is_power(case, *low, *high, slip, tally) && *high > UNIT,
+        (Some(11), [low, high]) | (Some(12), [low, high]) if slip => is_power(case, *low, *high, slip, tally) || *high <= UNIT,
+        (Some(11), [low, high]) | (Some(12), [low, high]) => is_power(case, *low, *high, slip, tally) && *high > UNIT,
         _ => false,
     };
     if right { Ok(()) } else { Err(fail(case, line, "wrong")) }
 }
 
-// The quick and the plain answer to the same power stand one after the other. None where that isn't what is asked.
-fn verdict_on_both(all: &[[u64; 5]], lines: &[&str], place: usize, slip: bool) -> Option<Result<(), String>> {
+// The kind of agreement that a case and the next one are about; None where the same isn't asked both ways.
+fn kind_of_both(all: &[[u64; 5]], place: usize) -> Option<usize> {
     let (case, after) = (all[place], *all.get(place + 1)?);
-    if case[0] != 5 || after[0] != 6 || case[1..] != after[1..] || !is_inside(&case) {
-        return None;
+    match [case[0], after[0]] {
+        _ if case[1..] != after[1..] || !is_inside(&case) => None,
+        [5, 6] => Some(BOTH_POWERS),
+        [2, 8] => Some(BOTH_ROOTS),
+        _ => None,
     }
-    let agreed = match (&numbers_of(lines[place])[..], &numbers_of(lines[place + 1])[..]) {
-        ([low, high], [next_low, next_high]) => agree([*low, *high], [*next_low, *next_high], slip),
+}
+
+// The two answers to the same power or cube root stand one after the other.
+fn verdict_on_both(all: &[[u64; 5]], lines: &[&str], place: usize, slip: bool) -> Option<Result<(), String>> {
+    let of = kind_of_both(all, place)?;
+    let agreed = match (of, &numbers_of(lines[place])[..], &numbers_of(lines[place + 1])[..]) {
+        (BOTH_POWERS, [low, high], [next_low, next_high]) => agree([*low, *high], [*next_low, *next_high], slip),
+        (BOTH_ROOTS, [root], [next_root]) => root.wrapping_sub(*next_root) == slip as u64,
         _ => false,
     };
-    Some(if agreed { Ok(()) } else { Err(fail(&case, lines[place], &format!("the plain power is '{}'", lines[place + 1]))) })
+    Some(if agreed { Ok(()) } else { Err(fail(&all[place], lines[place], &format!("the other way it is '{}'", lines[place + 1]))) })
 }
 
 fn cases() -> Vec<[u64; 5]> {
@@ -195,17 +209,13 @@ fn cases() -> Vec<[u64; 5]> {
     let mut all = Vec::new();
     for n in [0, 1, 2, 3, 4, 7, 8, 9, 26, 27, 28, u64::MAX, u64::MAX - 1, 1 << 62, (1 << 62) - 1, (1 << 63) + 1] {
         all.push([1, n, 0, 0, 0]);
-        all.push([2, n, 0, 0, 0]);
     }
     for _ in 0..4000 {
         let r = random.up_to(0xffff_ffff);
-        let t = random.up_to(2_642_245);
         for off in 0..3 {
             all.push([1, (r * r).wrapping_add(off).wrapping_sub(1), 0, 0, 0]);
-            all.push([2, (t * t * t).wrapping_add(off).wrapping_sub(1), 0, 0, 0]);
         }
         all.push([1, random.any_size(), 0, 0, 0]);
-        all.push([2, random.any_size(), 0, 0, 0]);
         let (n, d) = (random.any_size() % (1 << 41), random.any_size() % (1 << 41));
         all.push([3, n, d, 0, 0]);
         all.push([3, 36_000_000, random.up_to(60_000_000), 0, 0]);
@@ -215,7 +225,7 @@ fn cases() -> Vec<[u64; 5]> {
     }
     ratios_next_to_one(&mut random, &mut all);
     quotients(&mut random, &mut all);
-    for asked in [0, 8, 9, 255, 256, 263, 1 << 32 | 5, 1 << 63 | 7, u64::MAX] {
+    for asked in [0, 9, 10, 255, 256, 263, 264, 1 << 32 | 5, 1 << 32 | 8, 1 << 63 | 7, u64::MAX] {
         all.extend(&[[asked, 1, 1, 0, 1], [asked, 2, 1, 1, 2]]);
     }
     all
@@ -288,16 +298,16 @@ fn quotients(random: &mut Random, all: &mut Vec<[u64; 5]>) {
 }
 
 // How many of each kind lie in the domain, and of how many kinds a falsified expectation goes through.
-fn by_kind(all: &[[u64; 5]], lines: &[&str], tally: &mut Tally) -> ([(&'static str, u64); 13], usize) {
-    let (mut counts, mut uncaught) = (KINDS, [false; 13]);
+fn by_kind(all: &[[u64; 5]], lines: &[&str], tally: &mut Tally) -> ([(&'static str, u64); 15], usize) {
+    let (mut counts, mut uncaught) = (KINDS, [false; 15]);
     counts.iter_mut().for_each(|kind| kind.1 = 0);
     for (place, (case, line)) in all.iter().zip(lines).enumerate().filter(|(_, (case, _))| is_inside(case)) {
         let of = kind(case).expect("what is inside can be asked");
         counts[of].1 += 1;
         uncaught[of] |= verdict(case, line, true, tally).is_ok();
-        if let Some(both) = verdict_on_both(all, lines, place, true) {
-            counts[BOTH_WAYS].1 += 1;
-            uncaught[BOTH_WAYS] |= both.is_ok();
+        if let Some(of) = kind_of_both(all, place) {
+            counts[of].1 += 1;
+            uncaught[of] |= verdict_on_both(all, lines, place, true).map_or(false, |both| both.is_ok());
         }
     }
     (counts, uncaught.iter().filter(|kind| **kind).count())
@@ -324,16 +334,24 @@ fn answers(runner: &str, program: &str, all: &[[u64; 5]]) -> String {
     String::from_utf8(output.stdout).expect("plain text")
 }
 
-// The cases of every kind. Those of powers are asked both ways, and how many lie in the domain is counted by group.
-fn all_cases() -> (Vec<[u64; 5]>, Vec<(&'static str, u64)>) {
+// How many of each group there are.
+type Counts = Vec<(&'static str, u64)>;
+
+// The cases of every kind. Those of cube roots and of powers are asked both ways, and how many lie in the domain is counted
+// by group.
+fn all_cases() -> (Vec<[u64; 5]>, Counts, Counts) {
     let mut all = cases();
-    let mut counts = Vec::new();
+    let (mut of_roots, mut of_powers) = (Vec::new(), Vec::new());
+    for (name, group) in root_cases::groups(&mut Random(0xbb67_ae85_84ca_a73b)) {
+        of_roots.push((name, group.len() as u64));
+        all.extend(group.iter().flat_map(|n| vec![[2, *n, 0, 0, 0], [8, *n, 0, 0, 0]]));
+    }
     for (name, group) in power_cases::groups(&mut Random(0x6a09_e667_f3bc_c908)) {
         let inside = group.iter().filter(|[a, b, p, q]| powers::is_inside(*a, *b, *p, *q)).count();
-        counts.push((name, inside as u64));
+        of_powers.push((name, inside as u64));
         all.extend(group.iter().flat_map(|[a, b, p, q]| vec![[5, *a, *b, *p, *q], [6, *a, *b, *p, *q]]));
     }
-    (all, counts)
+    (all, of_roots, of_powers)
 }
 
 fn listed(counts: &[(&'static str, u64)]) -> String {
@@ -342,7 +360,7 @@ fn listed(counts: &[(&'static str, u64)]) -> String {
 
 fn main() {
     let arguments: Vec<String> = std::env::args().collect();
-    let (all, groups) = all_cases();
+    let (all, of_roots, of_powers) = all_cases();
     let text = answers(&arguments[1], &arguments[2], &all);
     let lines: Vec<&str> = text.lines().collect();
     if lines.len() != all.len() {
@@ -357,13 +375,15 @@ fn main() {
     let (counts, uncaught) = by_kind(&all, &lines, &mut falsified);
     let undecided = tally.undecided + falsified.undecided;
     println!("numbers: {}", listed(&counts));
-    println!("numbers: powers that are asked both ways: {}", listed(&groups));
+    println!("numbers: cube roots that are asked both ways: {}", listed(&of_roots));
+    println!("numbers: powers that are asked both ways: {}", listed(&of_powers));
     println!(
         "numbers: {} ends of powers compared in whole numbers written out, {} in rounded ones, {} undecided; {} are the power itself",
         tally.written_out, tally.rounded, undecided, tally.equal
     );
     println!("numbers: {} cases, {} wrong, {} kinds of falsified expectation uncaught", all.len(), wrong.len(), uncaught);
-    let few = counts.iter().zip(&KINDS).any(|(is, least)| is.1 < least.1) || groups.iter().any(|group| group.1 < FEWEST_OF_GROUP);
+    let few_of_group = of_roots.iter().chain(&of_powers).any(|group| group.1 < FEWEST_OF_GROUP);
+    let few = few_of_group || counts.iter().zip(&KINDS).any(|(is, least)| is.1 < least.1);
     if few {
         eprintln!("numbers: a kind or group has too few cases");
     }
