@@ -20,8 +20,10 @@ use Rattle.formula.specs.Words.{if}
 use Rattle.exact.specs.Index.{P-ME, emission, f-i, f-l, strengthened, f-m, speed, index, Speed-as-recorded, without-trial, declaring, Only-fractions}
 use Rattle.formula.proofs.Formulas.{consistent}
 use Rattle.formula.proofs.Powers.{power-of-one}
-use Rattle.number.specs.Ratio.{Moderate, cube-root-of}
-use Rattle.number.proofs.Ratios.{cube-root-of-is}
+use Rattle.root.specs.Root.{Root}
+use Rattle.root.proofs.Roots.{root-unique}
+use Rattle.number.specs.Ratio.{Moderate, rooted-by, cube-root-of}
+use Rattle.number.proofs.Ratios.{cube-root-of-is, by-any-root}
 use Rattle.power.specs.Power.{Raisable, one, power-of}
 use Rattle.power.proofs.Laws.{power-law}
 use Rattle.exact.proofs.Rules.{f-i-none, f-l-none, f-c-new}
@@ -53,12 +55,14 @@ use Rattle.layout.specs.Layout.{encode, ship-from, ship-in}
 use Rattle.block.specs.Answers.{length-refused, block-tests, read-refusal, read-of, loaded, write-refusal, write-of}
 use Rattle.block.proofs.Theorems as block
 use Rattle.propeller.specs.Propeller.{exactly, Speed}
-use Rattle.index.specs.Attained.{speed-of, lower-of, upper-of, index-of}
+use Rattle.index.specs.Attained.{speed-of, speeds-of, lower-of, upper-of, index-of}
 use Rattle.index.specs.declared.Index.{Index}
+use Rattle.index.specs.declared.SpeedBounds.{SpeedBounds}
 use Rattle.index.proofs.Laws as law
 use Rattle.index.proofs.Editions.{bounds-under}
 use Rattle.factor.proofs.Laws.{vehicles-full}
 use Rattle.desk.specs.Answers.{answer-of, answer-of-block, number-in, lower-in, upper-in, Accepted-record, lower, upper, Not-light-vehicles}
+use Rattle.desk.specs.declared.Answer.{Answer}
 use Rattle.desk.specs.declared.Answer.the-variants.{Bounds, Refused}
 use Rattle.desk.proofs.Answering.{refused, bounded, numbered, zero-bounded, block-accepted}
 use mathlib.Core.Bool.{Bool, true, false}
@@ -428,3 +432,20 @@ module _ (s : Ship) (edition edition' : ℕ) (t : Accepted-record (in-edition ed
 -- And whatever her ice class, the amended EEDI is the EEXI.
 pub amended-as-EEXI : (s : Ship) → Accepted-record (in-edition 2 s) → Accepted-record (in-edition 0 s) → Not-light-vehicles s → answer-of (in-edition 2 s) ≡ answer-of (in-edition 0 s)
 amended-as-EEXI s t t' full = one-f-m s 2 0 t t' full (f-m-of-editions (ice-of (s .particulars .ice)) .1)
+
+-- ── A plain cube root beside the quick one: document 02, Req 10 ─────────────────────────────
+
+-- Both give the same whole root of every number: what they promise has one answer.
+pub same-root : {n r s : ℕ} → Root 3 n r → Root 3 n s → r ≡ s
+same-root = root-unique
+
+-- So the cube root of a ratio is the same with either.
+pub same-ratio : {n d : ℕ} (one other : ℕ → ℕ) → ((x : ℕ) → x < 2 ^ 64 → Root 3 x (one x)) → ((x : ℕ) → x < 2 ^ 64 → Root 3 x (other x)) → Moderate n d → rooted-by one n d ≡ rooted-by other n d
+same-ratio one other p q h = by-any-root h one p ∙ sym (by-any-root h other q)
+
+-- And so are speed and index, which take cube roots of ratios alone: each is promised by a name that no way to a root stands in.
+pub same-speeds : (s : Ship) {a b : SpeedBounds} → a ≡ speeds-of (figures s) → b ≡ speeds-of (figures s) → a ≡ b
+same-speeds s p q = p ∙ sym q
+
+pub same-answer : (s : Ship) {a b : Answer} → a ≡ answer-of s → b ≡ answer-of s → a ≡ b
+same-answer s p q = p ∙ sym q

@@ -43,14 +43,12 @@ eights k = ap (λ (z : ℕ). 1024 * z) (pow-mul 2 3 k) ∙ sym (pow-add 2 10 (3 
 some-eights : (k : ℕ) → 0 < 8 ^ k
 some-eights k = rw (pow-mul 2 3 k) (pow-pos (3 * k))
 
-pub eighths-of : {n z : ℕ} → Zeros n z → z < 56 → Eighths n ((56 - z) / 3)
-eighths-of {n} {z} h some =
-    let k = (56 - z) / 3 in
-    let wide : 64 - z ≤ 10 + 3 * k = omega arith in
+pub eighths-of : {n z k : ℕ} → Zeros n z → z < 64 → 64 - z ≤ 10 + 3 * k → 3 * k ≤ 56 - z → Eighths n k
+eighths-of {n} {z} {k} h some wide narrow =
     record {
       enough = rw (eights k) (lt-of-lt-of-le (h .below) (pow-mono wide));
       fewest = λ j below.
-          let less : 63 - z < 10 + 3 * j = lt-of-not-le (λ le. not-le-of-lt (lt-of-le-of-lt (h .from (omega arith)) (rw (eights j) at below)) (pow-mono le)) in
+          let less : 63 - z < 10 + 3 * j = lt-of-not-le (λ le. not-le-of-lt (lt-of-le-of-lt (h .from some) (rw (eights j) at below)) (pow-mono le)) in
           omega arith;
     }
 
@@ -119,6 +117,6 @@ module _ {n k t : ℕ} (fits : n < 2 ^ 64) (divided : Eighths n k) (root : Root 
       let small = entry-small (entry-number fits divided) root in
       rw (moved-up small (times-few fits divided), root-named (omega arith) (rw (moved-down fits divided) at root))
 
-  pub started : (x : ℕ) → x ≡ if (ltb ((t + 1) * 2 ^ k % 2 ^ 64 / 1024) 2642245) ((t + 1) * 2 ^ k % 2 ^ 64 / 1024) 2642245 → Start n x
+  pub started : (y x : ℕ) → y ≡ (t + 1) * 2 ^ k % 2 ^ 64 / 1024 → x ≡ if (ltb y 2642245) y 2642245 → Start n x
   unfolding start-of
-  started x e = record { times = k; divided = divided; is = e ∙ ap (λ (y : ℕ). if (ltb y 2642245) y 2642245) named }
+  started y x raised e = record { times = k; divided = divided; is = e ∙ ap (λ (y : ℕ). if (ltb y 2642245) y 2642245) (raised ∙ named) }

@@ -10,7 +10,7 @@ fn eighths(n: u64) -> u64
     if zeros < 56 { (56 - zeros) / 3 } else { 0 }
 }
 
-// A start that is not below the root, and within a hundredth of it where n has ten bits or more.
+// A start that is not below the root, by the entry for the first digits of n.
 fn start(n: u64) -> u64
     ensures { λ r. ⌜ Start n r ⌝ }
 {

@@ -21,10 +21,8 @@ square-some n r h =
     let some = above-root n r (r * r) h in
     mul-pos some some
 
-step : (n r : ℕ) → 0 < r * r → n < ((2 * r + n / (r * r)) / 3 + 1) ^ 3
-step n r some =
-    let below : n < (n / (r * r) + 1) * (r * r) = omega (arith, lt-div-mul-add {a = n} some) in
-    newton 2 n r (n / (r * r)) ((2 * r + n / (r * r)) / 3 + 1) (rw (square r) below) (omega arith)
+quotient : (n r : ℕ) → 0 < r * r → n < (n / (r * r) + 1) * r ^ 2
+quotient n r some = rw (square r) (omega (arith, lt-div-mul-add {a = n} some))
 
 falls : (n r : ℕ) → n < r * r * r → n / (r * r) < r
 falls n r h = part-below n r (r * r) (square-some n r h) h
@@ -54,7 +52,9 @@ loop-less : tie.Need-loop-less Inv-loop μ-loop
 loop-less c = omega (arith, falls _ _ (c .loop-test .taken))
 
 loop-again : tie.Need-loop-again Inv-loop μ-loop
-loop-again c = (step _ _ (square-some _ _ (c .loop-test .taken)), omega (arith, falls _ _ (c .loop-test .taken), c .before .loop .inv .1))
+loop-again c =
+    let above = c .loop-test .taken in
+    (newton 2 _ _ _ _ (quotient _ _ (square-some _ _ above)) (omega arith), omega (arith, falls _ _ above, c .before .loop .inv .1))
 
 returns : tie.Need-returns Inv-loop μ-loop
 returns c = record { at-most = rw (cube _) (c .loop-test .left); next-above = c .before .loop .inv .0 }

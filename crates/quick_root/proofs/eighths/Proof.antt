@@ -9,7 +9,7 @@ cast-zeros : tie.Need-cast-zeros
 cast-zeros c = omega (arith, zeros-of (c .args .n) (c .fits .n .fits) .few)
 
 returns : tie.Need-returns
-returns c = eighths-of (zeros-of _ (c .before .fits .n .fits)) (c .if1 .taken)
+returns c = eighths-of (zeros-of _ (c .before .fits .n .fits)) (omega arith) (omega arith) (omega arith)
 
 returns-2 : tie.Need-returns-2
 returns-2 c = none-of (zeros-of _ (c .before .fits .n .fits)) (c .if1 .left)

@@ -1,4 +1,5 @@
 -- `quick_root::start` meets its contract. Assumes nothing.
+use mathlib.Core.Path.{refl}
 use native.Mathlib.Omega.{arith}
 use borrow.Author.Needs.{needs}
 use borrow.Author.Tests.{lt-ltb, le-ltb}
@@ -16,7 +17,7 @@ add-entry : tie.Need-add-entry
 add-entry c = omega (arith, entry-number (c .before .fits .n .fits) (c .eighths .ensures))
 
 entry-requires : tie.Need-entry-requires
-entry-requires c κs = entry-number (c .before .fits .n .fits) (c .eighths .ensures)
+entry-requires c κs = omega (arith, entry-number (c .before .fits .n .fits) (c .eighths .ensures))
 
 add-x : tie.Need-add-x
 add-x c =
@@ -31,12 +32,12 @@ shl-x c =
 returns : tie.Need-returns
 returns c =
     let at = c .before .before in
-    started (at .before .fits .n .fits) (at .eighths .ensures) (c .before .entry .ensures) _ (simp (lt-ltb _ _ (c .if1 .taken)))
+    started (at .before .fits .n .fits) (at .eighths .ensures) (c .before .entry .ensures) _ _ refl (simp (lt-ltb _ _ (c .if1 .taken)))
 
 returns-2 : tie.Need-returns-2
 returns-2 c =
     let at = c .before .before in
-    started (at .before .fits .n .fits) (at .eighths .ensures) (c .before .entry .ensures) _ (simp (le-ltb _ _ (c .if1 .left)))
+    started (at .before .fits .n .fits) (at .eighths .ensures) (c .before .entry .ensures) _ _ refl (simp (le-ltb _ _ (c .if1 .left)))
 
 pub start-spec : {M : Type 1} → statement M
 start-spec =
