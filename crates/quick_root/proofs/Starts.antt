@@ -8,7 +8,7 @@ use native.Mathlib.Omega.{arith}
 use lib.Dec.{ltb, lit≤, lit<}
 use lib.Pow.{pow-add, pow-mono, pow-pos, shl-exact}
 use lib.Count.{leadingZeros, leading-of-zero, leading-top}
-use borrow.Author.Tests.{ltb-true, ltb-false}
+use borrow.Author.Tests.{ltb-true, lt-ltb, le-ltb}
 use Rattle.formula.specs.Words.{if}
 use Rattle.formula.proofs.Wholes.{cube, mul-pow, pow-mul, pow-swap}
 use Rattle.root.specs.Root.{Root, root-of}
@@ -73,8 +73,8 @@ module _ {n k : ℕ} (fits : n < 2 ^ 64) (divided : Eighths n k) where
       rw moved-down (omega arith)
 
 -- An entry has 14 bits at most, and moved up so often it still fits a word.
-pub entry-small : {i t : ℕ} → i ≤ 1024 → Root 3 (i * 2 ^ 30) t → t < 2 ^ 14
-entry-small h root = root-below 3 (2 ^ 14) (2 ^ 40 + 1) (lit≤ tt) (omega arith) (root .at-most)
+pub entry-small : {i t : ℕ} → Root 3 (i * 2 ^ 30) t → i ≤ 1024 → t < 2 ^ 14
+entry-small root h = root-below 3 (2 ^ 14) (2 ^ 40 + 1) (lit≤ tt) (omega arith) (root .at-most)
 
 pub moved-up : {t k : ℕ} → t < 2 ^ 14 → k ≤ 18 → (t + 1) * 2 ^ k % 2 ^ 64 ≡ (t + 1) * 2 ^ k
 moved-up {t} {k} small few = shl-exact {a = t + 1} 15 k 64 (omega arith) (omega arith)
@@ -114,9 +114,15 @@ start-above {n} {x} fits s =
 module _ {n k t : ℕ} (fits : n < 2 ^ 64) (divided : Eighths n k) (root : Root 3 ((n / 2 ^ (3 * k) + 1) * 2 ^ 30) t) where
   named : (t + 1) * 2 ^ k % 2 ^ 64 / 1024 ≡ (root-of 3 ((n / 8 ^ k + 1) * 2 ^ 30) + 1) * 2 ^ k / 1024
   named =
-      let small = entry-small (entry-number fits divided) root in
+      let small = entry-small root (entry-number fits divided) in
       rw (moved-up small (times-few fits divided), root-named (omega arith) (rw (moved-down fits divided) at root))
 
-  pub started : (y x : ℕ) → y ≡ (t + 1) * 2 ^ k % 2 ^ 64 / 1024 → x ≡ if (ltb y 2642245) y 2642245 → Start n x
+  given : (y x : ℕ) → y ≡ (t + 1) * 2 ^ k % 2 ^ 64 / 1024 → x ≡ if (ltb y 2642245) y 2642245 → Start n x
   unfolding start-of
-  started y x raised e = record { times = k; divided = divided; is = e ∙ ap (λ (y : ℕ). if (ltb y 2642245) y 2642245) (raised ∙ named) }
+  given y x raised e = record { times = k; divided = divided; is = e ∙ ap (λ (y : ℕ). if (ltb y 2642245) y 2642245) (raised ∙ named) }
+
+  pub started : (y : ℕ) → y < 2642245 → y ≡ (t + 1) * 2 ^ k % 2 ^ 64 / 1024 → Start n y
+  started y below raised = given y y raised (simp (lt-ltb y 2642245 below))
+
+  pub started-largest : (y : ℕ) → 2642245 ≤ y → y ≡ (t + 1) * 2 ^ k % 2 ^ 64 / 1024 → Start n 2642245
+  started-largest y from raised = given y 2642245 raised (simp (le-ltb y 2642245 from))

@@ -2,8 +2,7 @@
 use mathlib.Core.Path.{refl}
 use native.Mathlib.Omega.{arith}
 use borrow.Author.Needs.{needs}
-use borrow.Author.Tests.{lt-ltb, le-ltb}
-use Rattle.quick_root.proofs.Starts.{times-few, entry-number, entry-small, started}
+use Rattle.quick_root.proofs.Starts.{times-few, entry-number, entry-small, started, started-largest}
 use Rattle.quick_root.proofs.start.Statement.{statement}
 use Rattle.quick_root.proofs.start.Tie as tie
 
@@ -22,7 +21,7 @@ entry-requires c κs = omega (arith, entry-number (c .before .fits .n .fits) (c 
 add-x : tie.Need-add-x
 add-x c =
     let at = c .before in
-    omega (arith, entry-small (entry-number (at .before .fits .n .fits) (at .eighths .ensures)) (c .entry .ensures))
+    omega (arith, entry-small (c .entry .ensures) (omega (arith, entry-number (at .before .fits .n .fits) (at .eighths .ensures))))
 
 shl-x : tie.Need-shl-x
 shl-x c =
@@ -32,12 +31,12 @@ shl-x c =
 returns : tie.Need-returns
 returns c =
     let at = c .before .before in
-    started (at .before .fits .n .fits) (at .eighths .ensures) (c .before .entry .ensures) _ _ refl (simp (lt-ltb _ _ (c .if1 .taken)))
+    started (at .before .fits .n .fits) (at .eighths .ensures) (c .before .entry .ensures) _ (c .if1 .taken) refl
 
 returns-2 : tie.Need-returns-2
 returns-2 c =
     let at = c .before .before in
-    started (at .before .fits .n .fits) (at .eighths .ensures) (c .before .entry .ensures) _ _ refl (simp (le-ltb _ _ (c .if1 .left)))
+    started-largest (at .before .fits .n .fits) (at .eighths .ensures) (c .before .entry .ensures) _ (c .if1 .left) refl
 
 pub start-spec : {M : Type 1} → statement M
 start-spec =
