@@ -14,7 +14,7 @@ import signal
 import subprocess
 import sys
 
-VERSION = "2.7"  # the second desk, after so many landings that a customer can tell (docs/landings)
+VERSION = "2.8"  # the second desk, after so many landings that a customer can tell (docs/landings)
 USAGE = """usage: desk fleet [--plain] [FILE...]
        desk --help | --version
 
