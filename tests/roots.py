@@ -3,6 +3,10 @@
 most i times 1,073,741,824, for i from 1 to 1,024; 0 stands before them, so that an entry's number is its place.
    tests/roots.py            writes the table's files
    tests/roots.py --check    says whether they are what it would write"""
+import sys
+
+sys.dont_write_bytecode = True  # the generators leave no file but those they write
+
 from table import hold, match_proof
 
 ENTRIES = 1024

@@ -10,7 +10,7 @@ use lib.Pow.{pow-add, pow-mono, pow-pos, shl-exact}
 use lib.Count.{leadingZeros, leading-of-zero, leading-top}
 use borrow.Author.Tests.{ltb-true, lt-ltb, le-ltb}
 use Rattle.formula.specs.Words.{if}
-use Rattle.formula.proofs.Wholes.{cube, mul-pow, pow-mul, pow-swap}
+use Rattle.formula.proofs.Wholes.{mul-pow, pow-mul, pow-swap}
 use Rattle.root.specs.Root.{Root, root-of}
 use Rattle.root.proofs.Roots.{root-of-is, root-named, root-below}
 use Rattle.quick_root.specs.Start.{Eighths, start-of, Start}
@@ -59,29 +59,28 @@ none-of {n} {z} h many =
 
 -- ── The entry ───────────────────────────────────────────────────────────────────────────────
 
-module _ {n k : ℕ} (fits : n < 2 ^ 64) (divided : Eighths n k) where
-  pub times-few : k ≤ 18
-  times-few = divided .fewest 18 (lt-of-lt-of-le fits (lit≤ tt))
+pub times-few : {n k : ℕ} → n < 2 ^ 64 → Eighths n k → k ≤ 18
+times-few fits divided = divided .fewest 18 (lt-of-lt-of-le fits (lit≤ tt))
 
-  -- Moved down by three binary digits a time.
-  pub moved-down : n / 2 ^ (3 * k) ≡ n / 8 ^ k
-  moved-down = ap (λ (z : ℕ). n / z) (sym (pow-mul 2 3 k))
+-- Moved down by three binary digits a time.
+moved-down : (n k : ℕ) → n / 2 ^ (3 * k) ≡ n / 8 ^ k
+moved-down n k = ap (λ (z : ℕ). n / z) (sym (pow-mul 2 3 k))
 
-  pub entry-number : n / 2 ^ (3 * k) + 1 ≤ 1024
-  entry-number =
-      let below : n / 8 ^ k < 1024 = div-lt-iff-lt-mul {k = 8 ^ k} {x = n} {y = 1024} (some-eights k) .1 (divided .enough) in
-      rw moved-down (omega arith)
+pub entry-number : {n k : ℕ} → Eighths n k → n / 2 ^ (3 * k) + 1 ≤ 1024
+entry-number {n} {k} divided =
+    let below : n / 8 ^ k < 1024 = div-lt-iff-lt-mul {k = 8 ^ k} {x = n} {y = 1024} (some-eights k) .1 (divided .enough) in
+    rw (moved-down n k) (omega arith)
 
 -- An entry has 14 bits at most, and moved up so often it still fits a word.
 pub entry-small : {i t : ℕ} → Root 3 (i * 2 ^ 30) t → i ≤ 1024 → t < 2 ^ 14
 entry-small root h = root-below 3 (2 ^ 14) (2 ^ 40 + 1) (lit≤ tt) (omega arith) (root .at-most)
 
-pub moved-up : {t k : ℕ} → t < 2 ^ 14 → k ≤ 18 → (t + 1) * 2 ^ k % 2 ^ 64 ≡ (t + 1) * 2 ^ k
+moved-up : {t k : ℕ} → t < 2 ^ 14 → k ≤ 18 → (t + 1) * 2 ^ k % 2 ^ 64 ≡ (t + 1) * 2 ^ k
 moved-up {t} {k} small few = shl-exact {a = t + 1} 15 k 64 (omega arith) (omega arith)
 
 -- ── Not below the root ──────────────────────────────────────────────────────────────────────
 
--- With s for 2^k, t for the entry and c for (t + 1) s: n is below (m + 1) s^3, and that is at most (c / 1024)^3.
+-- With s for 2^k and t for the entry: n is below (m + 1) s^3, and that is below ((t + 1) s / 1024)^3.
 above : (n m s t x : ℕ) → n < (m + 1) * s ^ 3 → (m + 1) * 2 ^ 30 < (t + 1) ^ 3 → (t + 1) * s < 1024 * (x + 1) → n < (x + 1) ^ 3
 above n m s t x below rule near =
     let table : (m + 1) * 2 ^ 30 * s ^ 3 ≤ (t + 1) ^ 3 * s ^ 3 = mul-le-mul-right (s ^ 3) (le-of-lt rule) in
@@ -114,8 +113,8 @@ start-above {n} {x} fits s =
 module _ {n k t : ℕ} (fits : n < 2 ^ 64) (divided : Eighths n k) (root : Root 3 ((n / 2 ^ (3 * k) + 1) * 2 ^ 30) t) where
   named : (t + 1) * 2 ^ k % 2 ^ 64 / 1024 ≡ (root-of 3 ((n / 8 ^ k + 1) * 2 ^ 30) + 1) * 2 ^ k / 1024
   named =
-      let small = entry-small root (entry-number fits divided) in
-      rw (moved-up small (times-few fits divided), root-named (omega arith) (rw (moved-down fits divided) at root))
+      let small = entry-small root (entry-number divided) in
+      rw (moved-up small (times-few fits divided), root-named (omega arith) (rw (moved-down n k) at root))
 
   given : (y x : ℕ) → y ≡ (t + 1) * 2 ^ k % 2 ^ 64 / 1024 → x ≡ if (ltb y 2642245) y 2642245 → Start n x
   unfolding start-of

@@ -10,8 +10,8 @@ pub record Eighths (n k : ℕ) : Type 0 where
   pub enough : n < 1024 * 8 ^ k
   pub fewest : (j : ℕ) → n < 1024 * 8 ^ j → k ≤ j
 
--- By the entry of the next number: n / 8^k + 1 is an entry's number, its root counts 1/1024, and a division by 8 halves the root. No root of 64
--- bits is above 2642245.
+-- n / 8^k is below the next whole number, whose root is an entry, in units of 1/1024; and a division by 8 halves the root. No root of 64 bits is
+-- above 2642245.
 unfoldable pub start-of : (n k : ℕ) → ℕ
 start-of n k =
     let x = (root-of 3 ((n / 8 ^ k + 1) * 2 ^ 30) + 1) * 2 ^ k / 1024 in

@@ -2,7 +2,7 @@
 use mathlib.Core.Bool.{Bool}
 use Prim.Native.Nat.{ℕ, _+_, _*_, _^_, _<_}
 use lib.Dec.{T, leb, ltb, leb→le, ltb→lt}
-use Rattle.formula.proofs.Tables.{both, both-left, both-right, each, at}
+use Rattle.formula.proofs.Tables.{both, both-left, both-right, at}
 use Rattle.root.specs.Root.{Root}
 use Rattle.root_table.specs.Table.{rows, entry-of}
 

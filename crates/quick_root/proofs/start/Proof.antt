@@ -13,15 +13,15 @@ shr-entry : tie.Need-shr-entry
 shr-entry c = omega (arith, times-few (c .before .fits .n .fits) (c .eighths .ensures))
 
 add-entry : tie.Need-add-entry
-add-entry c = omega (arith, entry-number (c .before .fits .n .fits) (c .eighths .ensures))
+add-entry c = omega (arith, entry-number (c .eighths .ensures))
 
 entry-requires : tie.Need-entry-requires
-entry-requires c κs = omega (arith, entry-number (c .before .fits .n .fits) (c .eighths .ensures))
+entry-requires c κs = omega (arith, entry-number (c .eighths .ensures))
 
 add-x : tie.Need-add-x
 add-x c =
     let at = c .before in
-    omega (arith, entry-small (c .entry .ensures) (omega (arith, entry-number (at .before .fits .n .fits) (at .eighths .ensures))))
+    omega (arith, entry-small (c .entry .ensures) (omega (arith, entry-number (at .eighths .ensures))))
 
 shl-x : tie.Need-shl-x
 shl-x c =
