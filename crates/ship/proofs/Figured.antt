@@ -14,8 +14,8 @@ use Rattle.formula.specs.Words.{if}
 use Rattle.exact.specs.Index.{Capacity, P_ME, sum_P_ME}
 use Rattle.ship.specs.Record.{no_engine, no_crane}
 use Rattle.ship.specs.Rules.{nonzero, outside, between, refusal_of}
-use Rattle.ship.specs.Figures.{kinds, kind_of, Listed, fuel_of, range_of, deadweight_of, uses_of, engine_of, mains, auxiliary_of, method_of, hull_of, crane_of, cranes_of, figures}
-use Rattle.ship.specs.Accepted.{Within, Ends, Limited, no_limiter, limiter, Measured, Rated, Each, no_more, one_more, Supplied, Near, ByDesignDraught, Sailed, Shaped, Geared, AcceptedFigures}
+use Rattle.ship.specs.Figures.{kinds, kind_of, Listed, fuel_of, range_of, deadweight_of, uses_of, engine_of, mains, auxiliary_of, method_of, crane_of, cranes_of, figures}
+use Rattle.ship.specs.Accepted.{Within, Ends, Limited, no_limiter, limiter, Measured, Rated, Each, no_more, one_more, Supplied, Near, ByDesignDraught, Sailed, Geared, AcceptedFigures}
 use Rattle.ship.specs.declared.Consumption.{Consumption}
 use Rattle.ship.specs.declared.Engine.{Engine}
 use Rattle.ship.specs.declared.Crane.{Crane}

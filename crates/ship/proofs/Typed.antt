@@ -1,30 +1,24 @@
 -- Every value of the type `Ship` has four engine entries and eight crane entries.
 -- Assumes nothing.
-use mathlib.Core.Path.{◌≡◌, refl, sym, ◌∙◌}
-use mathlib.Core.List.{List, [], ◌∷◌, map}
+use mathlib.Core.Path.{◌≡◌}
+use mathlib.Core.List.{List}
 use lib.ListN.{length}
 use mir.Val.{Val}
 use denote.Shadow.{shadow}
 use denote.Struct.Declared.{row}
 use Rattle.ship.specs.Record.{Entries}
 use Rattle.ship.specs.declared.Ship.{Ship}
-use Rattle.ship.specs.contracts.Engine as engine
-use Rattle.ship.specs.contracts.Crane as crane
 use Rattle.ship.specs.contracts.Ship.{the_type}
 
-unmapped : {A B : Type 0} (f : A → B) (xs : List A) → length (map f xs) ≡ length xs
-unmapped f [] = refl
-unmapped f (x ∷ xs) = rw (unmapped f xs)
-
 -- Where a function takes a ship s, its `c.good` has this shadow.
-pub four : (s : Ship) (vs : List Val) → shadow ((row the_type).own s vs) → length s.engines ≡ 4
-four s vs g = sym (unmapped (engine.the_field).into s.engines) ∙ g.1.1.1.1.1.0.1.0.1
+pub four : (s : Ship) (vs : List Val) → shadow ((row the_type).own_val s vs) → length s.engines ≡ 4
+four s vs g = g.1.1.1.1.1.0.1.0.1
 
-pub eight : (s : Ship) (vs : List Val) → shadow ((row the_type).own s vs) → length s.particulars.build.gear ≡ 8
+pub eight : (s : Ship) (vs : List Val) → shadow ((row the_type).own_val s vs) → length s.particulars.build.gear ≡ 8
 eight s vs g =
     let p = g.1.1.0.1.1 in
     let b = p.1.1.1.1.1.1.1.1.1.1.1.1.0.1.1 in
-    sym (unmapped (crane.the_field).into s.particulars.build.gear) ∙ b.1.1.1.0.1.0.1
+    b.1.1.1.0.1.0.1
 
-pub all_entries : (s : Ship) (vs : List Val) → shadow ((row the_type).own s vs) → Entries s
+pub all_entries : (s : Ship) (vs : List Val) → shadow ((row the_type).own_val s vs) → Entries s
 all_entries s vs g = record { engines = four s vs g; gear = eight s vs g }

@@ -1,4 +1,6 @@
 // A ship's record, by value. Numbers are as its block has them; what they may be is said by the rules.
+#![tactic(auto)]
+
 pub mod power;
 
 ghost use Rattle.std.specs.Prelude.{◌≡◌};
@@ -6,25 +8,25 @@ ghost use Rattle.formula.specs.Words.{if};
 ghost use Rattle.ship.specs.Refusals.{number_of};
 
 // Deadweight in tonnes and gross tonnage are types of their own, so that neither is accepted for the other.
-#[derive(Drop)]
+#[derive(Clone, Copy)]
 pub struct Deadweight {
     pub tonnes: u64,
 }
 
-#[derive(Drop)]
+#[derive(Clone, Copy)]
 pub struct GrossTonnage {
     pub gt: u64,
 }
 
 // Both ends count.
-#[derive(Drop)]
+#[derive(Clone, Copy)]
 pub struct Range {
     pub low: u64,
     pub high: u64,
 }
 
 // SFC in 1/10 g/kWh. Source 1 is a test report, 2 the maker or a verifier, 3 neither.
-#[derive(Drop)]
+#[derive(Clone, Copy)]
 pub struct Consumption {
     pub sfc: Range,
     pub fuel: u64,
@@ -32,7 +34,7 @@ pub struct Consumption {
 }
 
 // MCR and limit in kW; limit 0 is no limiter.
-#[derive(Drop)]
+#[derive(Clone, Copy)]
 pub struct Engine {
     pub mcr: Range,
     pub limit: u64,
@@ -40,14 +42,14 @@ pub struct Engine {
 }
 
 // The trial of speed methods 2 and 3; power in kW.
-#[derive(Drop)]
+#[derive(Clone, Copy)]
 pub struct Trial {
     pub power: u64,
     pub deadweight: Deadweight,
 }
 
 // Displacement volume in m³; length, breadth and draught in 1/100 m.
-#[derive(Drop)]
+#[derive(Clone, Copy)]
 pub struct Hull {
     pub volume: u64,
     pub length: u64,
@@ -56,14 +58,14 @@ pub struct Hull {
 }
 
 // Safe working load in tonnes and reach in metres, in tenths.
-#[derive(Drop)]
+#[derive(Clone, Copy)]
 pub struct Crane {
     pub swl: u64,
     pub reach: u64,
 }
 
 // What layout 2 adds: lightweight in tonnes; the first `cranes` crane entries count; edition 0 is EEXI, 1 EEDI, 2 EEDI as amended.
-#[derive(Drop)]
+#[derive(Clone, Copy)]
 pub struct Build {
     pub lightweight: u64,
     pub hull: Hull,
@@ -73,7 +75,7 @@ pub struct Build {
 }
 
 // What is never a range. Volume in m³; auxiliary power 1 is by the rule, 2 the table's kW; the first `used` engine entries count.
-#[derive(Drop)]
+#[derive(Clone, Copy)]
 pub struct Particulars {
     pub imo: u64,
     pub kind: u64,
@@ -91,7 +93,7 @@ pub struct Particulars {
 }
 
 // Speed in 1/100 knot. Four engine entries stand in every record, used or not.
-#[derive(Drop)]
+#[derive(Clone, Copy)]
 pub struct Ship {
     pub particulars: Particulars,
     pub speed: Range,
@@ -100,7 +102,7 @@ pub struct Ship {
 }
 
 // The first rule that a block, a record or a write breaks.
-#[derive(Drop)]
+#[derive(Clone, Copy)]
 pub enum Refusal {
     None,
     Length,
