@@ -1,4 +1,7 @@
 // Decimal digits, and bytes put one after the other into a lent buffer.
+
+#![tactic(auto)]
+
 ghost use Rattle.std.specs.Prelude.{◌≡◌, [], ◌∷◌, ◌++◌, ◌+◌, ◌≤◌, length};
 ghost use Rattle.decimal.specs.Digits.{decimal, Put};
 

@@ -1,5 +1,7 @@
 // Bytes of a record: little-endian numbers of any width, runs of them, the two check sums, and zeros.
 
+#![tactic(auto)]
+
 ghost use Rattle.std.specs.Prelude.{◌≡◌, ◌+◌, ◌≤◌, length, ◌==◌};
 ghost use Rattle.fields.specs.Numbers.{bytes_of, value_of, number_at};
 ghost use Rattle.fields.specs.Runs.{total, pack};
