@@ -8,7 +8,7 @@ use lib.Dec.{leb, ltb, T, leb→le, ltb→lt, lit≤}
 use lib.ListN.{get_or}
 use Rattle.power.specs.Table.{coarses, middles, fines}
 use Rattle.power.specs.Steps.{first_digit, slope, inverse_slope, short}
-use Rattle.formula.proofs.Tables.{both, both_left, both_right, each, at}
+use Rattle.formula.proofs.Tables.{both, both_left, both_right, at}
 use Rattle.power.proofs.Twos.{AtMost, AtLeast, most_down, LeastUp, most_finer, least_finer, most_line, least_line}
 use Rattle.power.proofs.Chains.{squared_up, squared_down, up_most, down_least}
 

@@ -1,6 +1,6 @@
 -- Products with the table's entries, rounded down: each is at most the power of 2, and loses at most two parts in 2^61. Assumes nothing.
 use mathlib.Core.Path.{◌≡◌}
-use Prim.Native.Nat.{ℕ, ◌+◌, ◌-◌, ◌*◌, ◌/◌, ◌^◌, ◌≤◌, ◌<◌}
+use Prim.Native.Nat.{ℕ, ◌+◌, ◌*◌, ◌^◌, ◌≤◌, ◌<◌}
 use native.Mathlib.Nat.{mul-le-mul_right, mul-pos, one-le-pow}
 use native.Mathlib.Omega.{arith}
 use lib.Dec.{lit≤}

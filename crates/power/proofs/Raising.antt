@@ -1,6 +1,6 @@
 -- The power of 2 from the table. Assumes nothing.
 use mathlib.Core.Path.{◌≡◌}
-use Prim.Native.Nat.{ℕ, ◌+◌, ◌-◌, ◌*◌, ◌/◌, ◌%◌, ◌^◌, ◌≤◌, ◌<◌}
+use Prim.Native.Nat.{ℕ, ◌+◌, ◌*◌, ◌/◌, ◌%◌, ◌^◌, ◌≤◌, ◌<◌}
 use native.Mathlib.Nat.{mul-le-mul, div-mul-le_self, lt-div-mul-add, le-div_iff_mul-le, mod-lt}
 use native.Mathlib.Omega.{arith}
 use lib.Dec.{lit≤}

@@ -1,7 +1,7 @@
 -- Powers of 2 with a fraction for exponent, against fractions, in whole numbers; each law once for each side, over variables.
 -- Assumes nothing.
 use mathlib.Core.Path.{◌≡◌, sym, ap}
-use Prim.Native.Nat.{ℕ, zero, suc, ◌+◌, ◌-◌, ◌*◌, ◌/◌, ◌^◌, ◌≤◌, ◌<◌}
+use Prim.Native.Nat.{ℕ, zero, suc, ◌+◌, ◌*◌, ◌^◌, ◌≤◌, ◌<◌}
 use native.Mathlib.Nat.{le_refl, le_trans, le_of_eq, mul-le-mul, mul-le-mul_right, mul-mul-mul_comm, mul_comm, mul-one, one-mul, mul-pos, le_of_mul-le-mul_left, le_of_mul-le-mul_right, lt_of_le_of_lt, mul-lt-mul_of_pos_right, pow-le-pow_left, pow-zero, one-le-pow}
 use native.Mathlib.Omega.{arith}
 use lib.Pow.{pow-add, pow_mono, pow-lt, pow_pos}
