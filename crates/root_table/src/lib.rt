@@ -1,4 +1,6 @@
 // A table of 1,024 cube roots.
+#![tactic(auto)]
+
 ghost use Rattle.std.specs.Prelude.{◌*◌, ◌^◌, ◌≤◌};
 ghost use Rattle.root.specs.Root.{Root};
 
