@@ -1,4 +1,7 @@
 // Where what layout 2 adds stands in a block, bytes 132 to 507: read, and written part by part.
+
+#![tactic(auto)]
+
 ghost use Rattle.std.specs.Prelude.{◌≡◌, ◌++◌, ◌+◌, ◌≤◌, length};
 ghost use Rattle.fields.specs.Runs.{numbers_at, widths_of, packed};
 ghost use Rattle.ship.specs.Record.{no_crane, no_build};
