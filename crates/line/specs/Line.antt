@@ -1,4 +1,4 @@
--- A line of the program, of its numbers.
+-- A line of a program, of its numbers.
 -- Assumes nothing.
 use Rattle.std.specs.Prelude.{ℕ, List, [], ◌∷◌, ◌++◌}
 use Rattle.decimal.specs.Digits.{decimal}
@@ -14,19 +14,15 @@ ended n = decimal n ++ (10 ∷ [])
 abbrev pub refused_word : List ℕ
 refused_word = 114 ∷ 101 ∷ 102 ∷ 117 ∷ 115 ∷ 101 ∷ 100 ∷ 32 ∷ []
 
--- Number after number, with a space between two.
-abbrev pub numbers_line : ℕ → List ℕ → List ℕ
-numbers_line n [] = ended n
-numbers_line n (m ∷ ms) = spaced n ++ numbers_line m ms
-
 -- Number, IMO number, lower, upper.
 abbrev pub bounds_line : ℕ → ℕ → ℕ → ℕ → List ℕ
-bounds_line n imo lower upper = numbers_line n (imo ∷ lower ∷ upper ∷ [])
-
--- Number, IMO number, lower and upper of the most favourable ship, floor and ceiling of the least favourable.
-abbrev pub speeds_line : ℕ → ℕ → ℕ → ℕ → ℕ → ℕ → List ℕ
-speeds_line n imo lower upper floor ceiling = numbers_line n (imo ∷ lower ∷ upper ∷ floor ∷ ceiling ∷ [])
+bounds_line n imo lower upper = spaced n ++ (spaced imo ++ (spaced lower ++ ended upper))
 
 -- Number, `refused`, refusal number.
 abbrev pub refusal_line : ℕ → ℕ → List ℕ
 refusal_line n r = spaced n ++ (refused_word ++ ended r)
+
+-- Number, IMO number, lower and upper of the most favourable ship, floor and ceiling of the least favourable.
+abbrev pub speeds_line : ℕ → ℕ → ℕ → ℕ → ℕ → ℕ → List ℕ
+speeds_line n imo lower upper floor ceiling =
+    spaced n ++ (spaced imo ++ (spaced lower ++ (spaced upper ++ (spaced floor ++ ended ceiling))))

@@ -1,7 +1,9 @@
 // One line of a program, of its numbers. Whoever puts one has 84 bytes for it, or 126 for one of speeds.
+#![tactic(auto)]
+
 ghost use Rattle.std.specs.Prelude.{◌+◌, ◌≤◌, length};
 ghost use Rattle.decimal.specs.Digits.{Put};
-ghost use Rattle.line.specs.Line.{bounds_line, speeds_line, refusal_line};
+ghost use Rattle.line.specs.Line.{bounds_line, refusal_line, speeds_line};
 
 use decimal::{put_number, put_text};
 
@@ -15,6 +17,17 @@ pub fn put_bounds(out: &mut [u8], at: usize, n: u64, imo: u64, lower: u64, upper
     let b = put_number(out, a, imo, b' ');
     let c = put_number(out, b, lower, b' ');
     put_number(out, c, upper, b'\n')
+}
+
+// Number, `refused`, refusal number.
+pub fn put_refusal(out: &mut [u8], at: usize, n: u64, refusal: u64) -> usize
+    requires { at + 84 ≤ length out.old }
+    ensures put { Put out.old at (refusal_line n refusal) out.new result }
+    ensures upper_bound { result ≤ at + 84 }
+{
+    let a = put_number(out, at, n, b' ');
+    let b = put_text(out, a, b"refused ");
+    put_number(out, b, refusal, b'\n')
 }
 
 // Number, IMO number, lower and upper of the most favourable ship, floor and ceiling of the least favourable: six numbers, 126 bytes.
@@ -38,15 +51,4 @@ pub fn put_speeds(
     let l = put_number(out, k, upper, b' ');
     let m = put_number(out, l, floor, b' ');
     put_number(out, m, ceiling, b'\n')
-}
-
-// Number, `refused`, refusal number.
-pub fn put_refusal(out: &mut [u8], at: usize, n: u64, refusal: u64) -> usize
-    requires { at + 84 ≤ length out.old }
-    ensures put { Put out.old at (refusal_line n refusal) out.new result }
-    ensures upper_bound { result ≤ at + 84 }
-{
-    let a = put_number(out, at, n, b' ');
-    let b = put_text(out, a, b"refused ");
-    put_number(out, b, refusal, b'\n')
 }

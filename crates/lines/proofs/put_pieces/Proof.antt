@@ -12,14 +12,14 @@ use Rattle.lines.proofs.put_pieces.Statement.{statement}
 use Rattle.lines.proofs.put_pieces.Tie as tie
 
 abbrev invariant-loop : tie.invariant-loop
-invariant-loop out₀ asked first bytes count end₀ i₀ out end i =
-    (i ≤ count) × (length out ≡ length out₀) × (end ≤ i * 126) × Put out₀ 0 (lines_to asked first bytes i) out end
+invariant-loop out₀ first bytes count end₀ i₀ out end i =
+    (i ≤ count) × (length out ≡ length out₀) × (end ≤ i * 84) × Put out₀ 0 (lines_to first bytes i) out end
 
 abbrev decreases-loop : tie.decreases-loop
-decreases-loop out₀ asked first bytes count end₀ i₀ out end i = count - i
+decreases-loop out₀ first bytes count end₀ i₀ out end i = count - i
 
 loop-holds : tie.Need-loop-init invariant-loop decreases-loop
-loop-holds c = (omega arith, refl, omega arith, no_line _ _ _ _)
+loop-holds c = (omega arith, refl, omega arith, no_line _ _ _)
 
 mul_at : tie.Need-overflow-mul-at invariant-loop decreases-loop
 mul_at c = omega arith
@@ -56,8 +56,8 @@ loop-again c =
     let a = l.before.before.before.args in
     let inv = l.loop.invariant in
     let line = put.put_line.ensures in
-    let piece = put_as (ap (line_of a.asked (a.first + l.loop.i)) (piece_is a.bytes.now (l.loop.i * 512) _ ended.piece_end.ensures.0)) line.0 in
-    (omega arith, put.put_line.auto.0 ∙ inv.1, omega (arith, line.1), next_line a.asked a.first a.bytes.now l.loop.i inv.3 piece)
+    let piece = put_as (ap (line_of (a.first + l.loop.i)) (piece_is a.bytes.now (l.loop.i * 512) _ ended.piece_end.ensures.0)) line.0 in
+    (omega arith, put.put_line.auto.0 ∙ inv.1, omega (arith, line.1), next_line a.first a.bytes.now l.loop.i inv.3 piece)
 
 same_length : tie.Need-same-length invariant-loop decreases-loop
 same_length c = c.before.loop.invariant.1
@@ -67,7 +67,7 @@ returns c =
     let l = c.before in
     let a = l.before.before.before.args in
     let e : l.loop.i ≡ a.count = omega arith in
-    put_as (ap (lines_to a.asked a.first a.bytes.now) e) l.loop.invariant.3
+    put_as (ap (lines_to a.first a.bytes.now) e) l.loop.invariant.3
 
 pub put_pieces_spec : {M : Type 1} → statement M
 put_pieces_spec =

@@ -1,0 +1,11 @@
+-- `fleet::start` meets its contract.
+-- Assumes nothing.
+use mathlib.Core.Path.{refl}
+use Rattle.fleet.proofs.start.Statement.{statement}
+use Rattle.fleet.proofs.start.Tie as tie
+
+returns : tie.Need-returns
+returns c = refl
+
+pub start_spec : {M : Type 1} → statement M
+start_spec = tie.close (tie.spec returns)
