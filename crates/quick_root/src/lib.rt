@@ -1,4 +1,6 @@
 // The whole cube root, quickly: a table has the start, and Newton's rule the rest.
+#![tactic(auto)]
+
 ghost use Rattle.root.specs.Root.{Root};
 ghost use Rattle.quick_root.specs.Start.{Eighths, Start};
 
