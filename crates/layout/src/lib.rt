@@ -1,5 +1,8 @@
 // Where each field of a record stands in a block of 512 bytes: read, and written run by run, each over its part, then the checks.
 // Whoever reads or writes a block here has seen that it has 512 bytes.
+
+#![tactic(auto)]
+
 ghost use Rattle.std.specs.Prelude.{◌≡◌, [], ◌∷◌, ◌+◌, ◌≤◌, length};
 ghost use Rattle.fields.specs.Runs.{numbers_at, widths_of, packed};
 ghost use Rattle.ship.specs.Record.{no_engine};

@@ -6,27 +6,18 @@ use Rattle.fields.specs.Runs.{pack, total}
 use Rattle.fields.proofs.Runs.{then_run, run_written}
 use Rattle.build_fields.specs.Fields.{front, cranes, sizes, added, newer}
 use Rattle.layout.specs.Layout.{head, entry, entries, fields, body}
-use borrow.Author.Rules.{rules}
-use Rattle.layout.proofs.write_body.Statement.{statement}
-use Rattle.layout.proofs.write_body.Tie as tie
+use Rattle.layout.proofs.write_body.Goals as goal
 
-returns : tie.Need-returns
+pub returns : goal.returns
 unfolding body fields head entries entry front cranes sizes added newer total pack
 returns c =
-    let c_newer = c.before.before in
-    let c_entries = c_newer.before.before.before.before in
-    let c_head = c_entries.before.before.before.before in
-    let start = c_head.before.before.before.before.before in
+    let c_newer = c in
+    let c_entries = c_newer in
+    let c_head = c_entries in
+    let start = c_head in
     let s = start.args.s in
     let d = start.args.part.now in
     let s1 = then_run [] (head s) d 0 52 refl refl c_head.write_head.ensures in
     let s2 = then_run (head s) (entries s.engines) d 52 80 refl s1 c_entries.write_entries.ensures in
     let s3 = then_run (head s ++ entries s.engines) (newer s.particulars.build) d 132 376 refl s2 c_newer.write_newer.ensures in
     run_written (fields s) d start.requires s3
-
-pub write_body_spec : {M : Type 1} → statement M
-write_body_spec =
-    tie.close
-    (tie.spec
-    (λ c. search rules) (λ c. search rules) (λ c. search rules) (λ c κs. search rules) (λ c. search rules) (λ c. search rules) (λ c. search rules)
-    (λ c κs. search rules) (λ c. search rules) (λ c. search rules) (λ c. search rules) (λ c κs. search rules) (λ c. search rules) returns)

@@ -1,0 +1,13 @@
+-- `layout::write_checks` meets its contract.
+-- Assumes nothing.
+use mathlib.Core.Path.{refl}
+use native.Mathlib.Omega.{arith}
+use Rattle.fields.specs.Runs.{total}
+use Rattle.layout.proofs.write_checks.Goals as goal
+
+pub put_run-requires : goal.put_run-requires
+unfolding total
+put_run-requires c = record { widths_len = refl; widths_value = omega arith }
+
+pub returns : goal.returns
+returns c = c.put_run.ensures
