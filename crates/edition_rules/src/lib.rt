@@ -1,4 +1,6 @@
 // Rule 19: the edition, and what a new ship's EEDI rules out.
+#![tactic(auto)]
+
 ghost use Rattle.std.specs.Prelude.{◌≡◌};
 ghost use Rattle.ship.specs.Rules.{any_used, not_new, edition_refused};
 

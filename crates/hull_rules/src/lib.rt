@@ -1,4 +1,6 @@
 // The rules of the layout and the hull, 3 to 8: each a function that says whether it is broken, and the first one broken.
+#![tactic(auto)]
+
 ghost use Rattle.std.specs.Prelude.{◌≡◌};
 ghost use Rattle.ship.specs.Refusals.{first_of};
 ghost use Rattle.ship.specs.Rules.{layout_refused, imo_refused, type_refused, deadweight_refused, gross_refused, volume_refused, hull_tests};

@@ -1,5 +1,7 @@
 // The rules of engines, consumption, auxiliaries, ice class, speed and ranges, 9 to 14: each a function that says whether it is
 // broken, and the first one broken.
+#![tactic(auto)]
+
 ghost use Rattle.std.specs.Prelude.{◌≡◌};
 ghost use Rattle.ship.specs.Refusals.{first_of};
 ghost use Rattle.ship.specs.Rules.{any_used, engine_refused, engines_refused, uses_refused, consumption_refused, auxiliary_refused};

@@ -3,13 +3,11 @@
 use Prim.Native.Nat.{ℕ}
 use mathlib.Core.Path.{◌≡◌}
 use mathlib.Core.Bool.{Bool, false, ◌&&◌, ◌||◌}
-use borrow.Author.Rules.{rules}
 use borrow.Author.Tests.{ne_eqb}
 use lib.Dec.{ltb}
 use Rattle.ship.specs.Figures.{last_edition}
 use Rattle.ship.specs.Rules.{nonzero, edition_refused}
-use Rattle.edition_rules.proofs.edition_broken.Statement.{statement}
-use Rattle.edition_rules.proofs.edition_broken.Tie as tie
+use Rattle.edition_rules.proofs.edition_broken.Goals as goal
 
 -- Of edition 0, whatever else is asked.
 of_EEXI : (edition : ℕ) (other : Bool) → edition ≡ 0 → false ≡ ltb last_edition edition || nonzero edition && other
@@ -19,13 +17,10 @@ of_EEXI edition other h = rw h
 of_others : (edition : ℕ) (other : Bool) → (edition ≡ 0 → ⊥) → ltb last_edition edition || other ≡ ltb last_edition edition || nonzero edition && other
 of_others edition other n = rw (ne_eqb edition 0 n)
 
-returns : tie.Need-returns
+pub returns-then-edition-eq0 : goal.returns-then-edition-eq0
 unfolding edition_refused
-returns c = of_EEXI _ _ c.if1.true
+returns-then-edition-eq0 c = of_EEXI _ _ c.if-edition-eq0.true
 
-returns-2 : tie.Need-returns-2
+pub returns : goal.returns
 unfolding edition_refused
-returns-2 c = rw c.before.any_not_new.ensures (of_others _ _ c.before.before.before.if1.false)
-
-pub edition_broken_spec : {M : Type 1} → statement M
-edition_broken_spec = tie.close (tie.spec returns (λ c κs. search rules) returns-2)
+returns c = rw c.any_not_new-barred.ensures (of_others _ _ c.if-edition-eq0.false)
