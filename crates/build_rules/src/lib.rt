@@ -1,4 +1,6 @@
 // Rule 18, of the lightweight, the hull and the cranes; and whether anything that layout 2 adds is there, which rule 16 asks of layout 1.
+#![tactic(auto)]
+
 ghost use Rattle.std.specs.Prelude.{◌≡◌, get_or};
 ghost use Rattle.ship.specs.Record.{no_crane};
 ghost use Rattle.ship.specs.Rules.{any_below, lifting, shaped, built, newer_refused, lightweight_refused, crane_refused, cranes_refused};
