@@ -1,4 +1,6 @@
 // The rules of a record in their order, with rules 15, 16, 18 and 19, which come last.
+#![tactic(auto)]
+
 ghost use Rattle.std.specs.Prelude.{◌≡◌, false, ◌≤◌};
 ghost use Rattle.ship.specs.Refusals.{first_of};
 ghost use Rattle.ship.specs.Rules.{type_refused, deadweight_refused, engines_refused, apart, trial_refused, occupied};
