@@ -1,4 +1,6 @@
 // Standard input and output: how much was read and why no more came, whether all was written, and what is said where one of them fails.
+#![tactic(auto)]
+
 ghost use Rattle.std.specs.Prelude.{◌≡◌, true, false, ◌+◌, ◌≤◌, ◌<◌, pos, length};
 ghost use Rattle.std.specs.Int.Signed.{lt_z};
 ghost use Rattle.io.specs.Counts.{IsPrefixLen};
@@ -6,10 +8,13 @@ ghost use Rattle.decimal.specs.Digits.{Put};
 ghost use Rattle.streams.specs.Streams.{nothing_yet, got_after, ReadOn, Filled, answered_of, sent_after, complaint};
 
 use decimal::put_text;
-use libc::{STDIN_FILENO, STDOUT_FILENO};
+use std::io::{Error, Print, Read, Stdin, Stdout};
+
+// errno where nobody reads a pipe any more.
+const EPIPE: i32 = 32;
 
 // What has come of reading: so many bytes, whether more may come, and whether a read failed. Only reading makes one.
-#[derive(Drop)]
+#[derive(Clone, Copy)]
 pub struct Got {
     count: usize,
     going: bool,
@@ -17,7 +22,7 @@ pub struct Got {
 }
 
 // What has come of writing: whether all was written and, if not, whether that is because nobody reads it any more.
-#[derive(Drop)]
+#[derive(Clone, Copy)]
 pub struct Sent {
     pub all: bool,
     pub closed: bool,
@@ -52,23 +57,31 @@ fn after(got: Got, answer: isize, rest: &[u8]) -> Got
     }
 }
 
+// One read, as C answers it: how many bytes came, or -1 where it failed.
+fn read_some(mut input: Stdin, rest: &mut [u8]) -> isize {
+    match input.read(rest) {
+        Ok(count) => count as isize,
+        Err(_) => -1,
+    }
+}
+
 // One read, behind what is there already.
-fn read_on(blocks: &mut [u8], got: Got) -> Got
+fn read_on(input: Stdin, blocks: &mut [u8], got: Got) -> Got
     requires { got.count ≤ length blocks.old }
     ensures { ReadOn (length blocks.new) got result }
 {
     let at = got.count;
-    let answer = libc::read(STDIN_FILENO, &mut blocks[at..]);
+    let answer = read_some(input, &mut blocks[at..]);
     after(got, answer, &blocks[at..])
 }
 
 // Reads standard input until the buffer is full, the input ends or a read fails.
-pub fn fill(blocks: &mut [u8]) -> Got
+pub fn fill(input: Stdin, blocks: &mut [u8]) -> Got
     ensures { Filled (length blocks.new) result }
 {
     let mut got = nothing();
     while got.going & (got.count < blocks.len()) {
-        got = read_on(blocks, got);
+        got = read_on(input, blocks, got);
     }
     got
 }
@@ -94,23 +107,30 @@ pub fn is_going(got: Got) -> bool
 fn sent_after(all: bool, error: i32) -> Sent
     ensures { result ≡ sent_after all error }
 {
-    let closed = error == libc::EPIPE;
+    let closed = error == EPIPE;
     Sent {
         all,
         closed: !all & closed,
     }
 }
 
+// The system's number for what failed, 0 where it has none.
+fn errno(error: &Error) -> i32 {
+    error.raw_os_error().unwrap_or(0)
+}
+
 // Writes the text to standard output.
-pub fn send(text: &[u8]) -> Sent
+pub fn send(output: Stdout, text: &[u8]) -> Sent
     ensures { result.all ≡ true → result.closed ≡ false }
 {
-    let all = io::write_all(STDOUT_FILENO, text);
-    sent_after(all, os::errno())
+    match output.write_all(text) {
+        Ok(()) => sent_after(true, 0),
+        Err(error) => sent_after(false, errno(&error)),
+    }
 }
 
 // What is to be said on standard error, under the program's name, at the start of the buffer; answers how many bytes it is. The longest
-// words have 31 bytes, for which `program` has room beside the six of its longer name.
+// words have 31 bytes, for which `fleet` has room beside the five of its name.
 pub fn put_complaint(out: &mut [u8], name: &[u8], got: Got, sent: Sent) -> usize
     requires { length name.now + 31 ≤ length out.old }
     ensures { Put out.old 0 (complaint name.now got sent) out.new result }

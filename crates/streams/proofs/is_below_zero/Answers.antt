@@ -5,11 +5,7 @@ use lib.IntN.{ℤ, pos}
 use lib.Signed.{lt_z}
 use mir.Syntax.{w64}
 use mir.ValLaws.{to_z-of_z}
-use Rattle.streams.proofs.is_below_zero.Statement.{statement}
-use Rattle.streams.proofs.is_below_zero.Tie as tie
+use Rattle.streams.proofs.is_below_zero.Goals as goal
 
-returns : tie.Need-returns
+pub returns : goal.returns
 returns c = ap (λ (z : ℤ). lt_z z (pos 0)) (to_z-of_z w64 c.args.answer c.ranges.answer)
-
-pub is_below_zero_spec : {M : Type 1} → statement M
-is_below_zero_spec = tie.close (tie.spec returns)
