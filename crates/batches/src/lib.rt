@@ -1,9 +1,11 @@
 // The batches of a program, of 128 blocks each: with which block one begins, and whether there is another.
+#![tactic(auto)]
+
 ghost use Rattle.std.specs.Prelude.{◌≡◌};
 ghost use Rattle.batches.specs.Batches.{first_batch, batch_after, batch_if, Begun};
 
 // The batch of up to 128 blocks that begins with block `first`; `more` is whether there is one.
-#[derive(Drop)]
+#[derive(Clone, Copy)]
 pub struct Batch {
     pub first: u32,
     pub more: bool,
