@@ -1,4 +1,6 @@
 // Power and emissions of a record's engines at both ends of every range, and its Capacity with f_i and f_m, in whole numbers.
+#![tactic(auto)]
+
 ghost use Rattle.std.specs.Prelude.{◌≡◌, ℕ, ◌≤◌, ◌<◌, get_or};
 ghost use Rattle.exact.specs.Index.{C_F, f_m};
 ghost use Rattle.exact.specs.Ranges.{low, high, uses_at, engines_at};
@@ -12,21 +14,21 @@ ghost use Rattle.plant.specs.Plant.{end, Entered, Roomy, grams, auxiliary_power,
 use ship::{Consumption, Engine, Range, Ship};
 
 // Over the main engines: MCR in kW, P_ME × C_F × SFC in 10^-6 g/h.
-#[derive(Drop)]
+#[derive(Clone, Copy)]
 struct Sums {
     pub rated: u64,
     pub grams: u64,
 }
 
 // At the low and at the high end of every range.
-#[derive(Drop)]
+#[derive(Clone, Copy)]
 struct SumEnds {
     pub low: Sums,
     pub high: Sums,
 }
 
 // What the main engines and the auxiliaries emit.
-#[derive(Drop)]
+#[derive(Clone, Copy)]
 pub struct Emitted {
     pub main: Range,
     pub auxiliary: Range,
