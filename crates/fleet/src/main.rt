@@ -1,21 +1,23 @@
 // The desk's program: a line for each block of standard input.
+#![tactic(auto)]
+
 ghost use Rattle.std.specs.Prelude.{◌≡◌, ◌≤◌, length, take};
 ghost use Rattle.streams.specs.Streams.{Filled, answered_of};
 ghost use Rattle.lines.specs.Lines.{lines_of};
 ghost use Rattle.fleet.specs.Batches.{first_batch, batch_after, batch_if, Begun, Follows};
 
-use libc::STDERR_FILENO;
+use std::io::Print;
 use streams::{Got, Sent};
 
 // The batch of up to 128 blocks that begins with block `first`; `more` is whether there is one.
-#[derive(Drop)]
+#[derive(Clone, Copy)]
 struct Batch {
     first: u32,
     more: bool,
 }
 
 // What a batch comes to: the first `end` bytes of the text are to be written, and then comes `next`.
-#[derive(Drop)]
+#[derive(Clone, Copy)]
 struct Step {
     end: usize,
     next: Batch,
@@ -62,26 +64,26 @@ fn go_on(next: Batch, sent: Sent) -> Batch
 }
 
 // Reads a batch, writes its lines in one write and says what failed; answers what comes after it, which is nothing where a side failed.
-fn next(batch: Batch) -> Batch
+fn next(rt: HostRuntime, batch: Batch) -> Batch
     requires { Begun batch }
     ensures { Follows batch result }
 {
     let mut blocks = [0u8; 65536];
-    let got = streams::fill(&mut blocks);
+    let got = streams::fill(rt.stdin(), &mut blocks);
     let mut text = [0u8; 10752];
     let step = put_batch(&mut text, batch, &blocks, got);
     let end = step.end;
-    let sent = streams::send(&text[..end]);
+    let sent = streams::send(rt.stdout(), &text[..end]);
     let mut complaint = [0u8; 36];
     let said = streams::put_complaint(&mut complaint, b"fleet", got, sent);
-    io::write_all(STDERR_FILENO, &complaint[..said]);
+    let _told = rt.stderr().write_all(&complaint[..said]);
     go_on(step.next, sent)
 }
 
 // 512 batches at most, so that no byte beyond 65,536 blocks is asked for.
-fn main() {
+fn main(rt: HostRuntime) {
     let mut batch = start();
     while batch.more {
-        batch = next(batch);
+        batch = next(rt, batch);
     }
 }

@@ -10,9 +10,9 @@ use lib.Seq.{take-take, length-take-le}
 use Rattle.streams.specs.declared.Got.{Got}
 use Rattle.streams.specs.Streams.{Filled, answered_of}
 use Rattle.streams.proofs.Reading.{answered_within, going_all}
-use Rattle.lines.specs.declared.Asked.{Asked}
-use Rattle.lines.specs.Lines.{lines_of}
-use Rattle.lines.proofs.Files.{lines_append}
+use Rattle.asked_lines.specs.declared.Asked.{Asked}
+use Rattle.asked_lines.specs.Lines.{lines_of}
+use Rattle.asked_lines.proofs.Files.{lines_append}
 use Rattle.batches.specs.declared.Batch.{Batch}
 use Rattle.batches.specs.Batches.{batch_after}
 

@@ -2,8 +2,8 @@
 -- Assumes nothing.
 use Rattle.std.specs.Prelude.{ℕ, List}
 use Rattle.streams.specs.Streams.{bytes_of}
-use Rattle.lines.specs.declared.Asked.{Asked}
-use Rattle.lines.specs.declared.Asked.TheVariants.{Index, Speed}
+use Rattle.asked_lines.specs.declared.Asked.{Asked}
+use Rattle.asked_lines.specs.declared.Asked.TheVariants.{Index, Speed}
 
 -- The program that asks so.
 abbrev pub name_of : Asked → List ℕ

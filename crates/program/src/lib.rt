@@ -1,18 +1,20 @@
 // The programs' work: a line for each block of standard input, 128 blocks at a time.
+#![tactic(auto)]
+
 ghost use Rattle.std.specs.Prelude.{◌≡◌, ◌≤◌, length, take};
 ghost use Rattle.streams.specs.Streams.{Filled, answered_of, complaint};
 ghost use Rattle.decimal.specs.Digits.{Put};
-ghost use Rattle.lines.specs.Lines.{lines_of};
+ghost use Rattle.asked_lines.specs.Lines.{lines_of};
 ghost use Rattle.batches.specs.Batches.{batch_after, Begun, Follows, Ended};
 ghost use Rattle.program.specs.Names.{name_of};
 
+use asked_lines::Asked;
 use batches::Batch;
-use libc::STDERR_FILENO;
-use lines::Asked;
+use std::io::Print;
 use streams::{Got, Sent};
 
 // What a batch comes to: the first `end` bytes of the text are to be written, and then comes `next`.
-#[derive(Drop)]
+#[derive(Clone, Copy)]
 struct Step {
     end: usize,
     next: Batch,
@@ -31,7 +33,7 @@ fn put_batch(text: &mut [u8], asked: Asked, batch: Batch, blocks: &[u8], got: Go
     let first = batch.first;
     let next = batches::after(batch, streams::is_going(got));
     let answered = streams::answered(got);
-    let end = lines::put_lines(text, asked, first, &blocks[..answered]);
+    let end = asked_lines::put_lines(text, asked, first, &blocks[..answered]);
     Step { end, next }
 }
 
@@ -47,30 +49,30 @@ fn put_said(out: &mut [u8], asked: Asked, got: Got, sent: Sent) -> usize
 }
 
 // Reads a batch, writes its lines in one write and says what failed; answers what comes after it, which is nothing where a side failed.
-fn next(batch: Batch, asked: Asked) -> Batch
+fn next(rt: HostRuntime, batch: Batch, asked: Asked) -> Batch
     requires { Begun batch }
     ensures { Follows batch result }
 {
     let mut blocks = [0u8; 65536];
-    let got = streams::fill(&mut blocks);
+    let got = streams::fill(rt.stdin(), &mut blocks);
     let mut text = [0u8; 16128];
     let step = put_batch(&mut text, asked, batch, &blocks, got);
     let end = step.end;
-    let sent = streams::send(&text[..end]);
+    let sent = streams::send(rt.stdout(), &text[..end]);
     let mut said = [0u8; 37];
     let words = put_said(&mut said, asked, got, sent);
-    io::write_all(STDERR_FILENO, &said[..words]);
+    let _said = rt.stderr().write_all(&said[..words]);
     batches::go_on(step.next, sent.all)
 }
 
 // All of a program. Answers with which block the batch after the last would begin: 512 batches at most, so that no byte beyond 65,536
 // blocks is asked for.
-pub fn run(asked: Asked) -> u32
+pub fn run(rt: HostRuntime, asked: Asked) -> u32
     ensures { Ended result }
 {
     let mut batch = batches::start();
     while batch.more {
-        batch = next(batch, asked);
+        batch = next(rt, batch, asked);
     }
     batch.first
 }

@@ -1,6 +1,8 @@
 // The speed by itself: for each block of standard input a line with the speed bounds of its most and its least favourable ship, or her refusal.
-use lines::Asked;
+#![tactic(auto)]
 
-fn main() {
-    program::run(Asked::Speed);
+use asked_lines::Asked;
+
+fn main(rt: HostRuntime) {
+    program::run(rt, Asked::Speed);
 }

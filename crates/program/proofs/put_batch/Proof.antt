@@ -7,8 +7,8 @@ use borrow.Author.Rules.{rules}
 use lib.ListN.{length, take}
 use lib.Seq.{length-take-le}
 use Rattle.streams.proofs.Reading.{answered_within}
-use Rattle.lines.specs.Lines.{lines_of}
-use Rattle.lines.proofs.Files.{lines_front}
+use Rattle.asked_lines.specs.Lines.{lines_of}
+use Rattle.asked_lines.proofs.Files.{lines_front}
 use Rattle.batches.specs.Batches.{batch_after}
 use Rattle.program.proofs.put_batch.Statement.{statement}
 use Rattle.program.proofs.put_batch.Tie as tie
