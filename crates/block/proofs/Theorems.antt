@@ -58,7 +58,7 @@ pub same_ship : (s : Ship) → Entries s → refusal_of s ≡ None → read_of (
 same_ship = read_back
 
 -- Of a value of the type `Ship`, which has its entries, nothing else need be known.
-pub same_ship_value : (s : Ship) (vs : List Val) → shadow ((row the_type).own s vs) → refusal_of s ≡ None → read_of (encode s) ≡ loaded None s
+pub same_ship_value : (s : Ship) (vs : List Val) → shadow ((row the_type).own_val s vs) → refusal_of s ≡ None → read_of (encode s) ≡ loaded None s
 same_ship_value s vs g = read_back s (all_entries s vs g)
 
 -- A block that is accepted, written again, has the same bytes.

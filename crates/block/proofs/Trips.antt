@@ -17,7 +17,6 @@ use Rattle.fields.proofs.Runs.{Fit, none, ◌&◌, unpack, repack}
 use Rattle.ship.specs.Record.{no_engine, no_crane, Entries, with_build}
 use Rattle.ship.specs.Refusals.{first_of}
 use Rattle.ship.specs.Rules.{nonzero, tests, refusal_of}
-use Rattle.ship.specs.declared.Engine.{Engine}
 use Rattle.ship.specs.declared.Crane.{Crane}
 use Rattle.ship.specs.declared.Particulars.{Particulars}
 use Rattle.ship.specs.declared.Ship.{Ship}

@@ -1,4 +1,7 @@
 // The block of 512 bytes: a ship's record, read and written.
+
+#![tactic(auto)]
+
 mod reading;
 
 ghost use Rattle.std.specs.Prelude.{◌≡◌};
