@@ -26,19 +26,18 @@ Upto below a b = a ≤ b
 Upto above a b = b ≤ a
 
 pub some_at : {x : Bounds} → 0 < x.lo → x.lo ≤ x.hi → (s : Side) → 0 < at s x
-some_at h o s = elim s [ below ↦ h | above ↦ omega arith ]
+some_at h o below = h
+some_at h o above = omega arith
 
 -- ── A power on either side ──────────────────────────────────────────────────────────────────
 
 pub power_at : {a b p q : ℕ} {x : Bounds} → Power a b p q x → (s : Side) → BoundsPower s (at s x) unit a b p q
-power_at w s = elim s [ below ↦ w.encloses_below | above ↦ w.encloses_above ]
+power_at w below = w.encloses_below
+power_at w above = w.encloses_above
 
 pub inverse_at : {a b p q : ℕ} {x : Bounds} → 0 < a → 0 < b → 0 < q → Power a b p q x → (s : Side) → BoundsPower s unit (at (other s) x) b a p q
-inverse_at apos bpos qpos w s =
-    elim s [
-      | below ↦ inverted above _ unit _ _ _ _ (omega (arith, w.low, w.order)) (lit< tt) apos bpos qpos w.encloses_above
-      | above ↦ inverted below _ unit _ _ _ _ (omega (arith, w.low)) (lit< tt) apos bpos qpos w.encloses_below
-    ]
+inverse_at apos bpos qpos w below = inverted above _ unit _ _ _ _ (omega (arith, w.low, w.order)) (lit< tt) apos bpos qpos w.encloses_above
+inverse_at apos bpos qpos w above = inverted below _ unit _ _ _ _ (omega (arith, w.low)) (lit< tt) apos bpos qpos w.encloses_below
 
 -- What is farther out bounds it as well.
 pub farther : (s : Side) (t u v k a b p q : ℕ) → 0 < k → 0 < u → Upto s (v * u) (t * k) → BoundsPower s t u a b p q → BoundsPower s v k a b p q
@@ -58,7 +57,8 @@ Cubes below t w b n d = (t * 1000 * w) ^ 3 * d ≤ (b * 2 ^ 30) ^ 3 * n
 Cubes above t w b n d = (b * 2 ^ 30) ^ 3 * n ≤ (t * 1000 * w) ^ 3 * d
 
 pub cubes : {p : Split} {n d : ℕ} {r : Bounds} → Product p n d r → (s : Side) → Cubes s (at s r) (at (other s) p.over) (at s p.base) n d
-cubes x s = elim s [ below ↦ x.below | above ↦ x.above ]
+cubes x below = x.below
+cubes x above = x.above
 
 -- ── A power with a cap ──────────────────────────────────────────────────────────────────────
 

@@ -1,4 +1,6 @@
 // The propeller law, by which a speed goes with the cube root of the power: in millionths of a knot, from below and from above.
+#![tactic(auto)]
+
 ghost use Rattle.std.specs.Prelude.{◌≡◌, ◌*◌, ◌/◌, ◌^◌, ◌≤◌, ◌<◌};
 ghost use Rattle.number.specs.Division.{Floor, Ceil, ceil_of};
 ghost use Rattle.number.specs.Ratio.{Moderate};
