@@ -150,6 +150,7 @@ pub fn emissions(s: Ship) -> Emitted
 }
 
 // f_m by edition and ice class, in 1/100.
+#[tactic(auto, using(ship::proofs::Editions::first_without, ship::proofs::Editions::class_1_with, ship::proofs::Editions::others_without))]
 fn ice_factor(edition: u64, ice: u64) -> u64
     ensures { (result ≡ f_m (edition_of edition) (ice_of ice)) × Within 100 105 result }
 {

@@ -10,7 +10,7 @@ use Rattle.ship.specs.Record.{Entries}
 use Rattle.ship.specs.declared.Ship.{Ship}
 use Rattle.ship.specs.contracts.Ship.{the_type}
 
--- Where a function takes a ship s, its `c.good` has this shadow.
+-- Where a function takes a ship s, its `c.well_formed.0` has this shadow.
 pub four : (s : Ship) (vs : List Val) → shadow ((row the_type).own_val s vs) → length s.engines ≡ 4
 four s vs g = g.1.1.1.1.1.0.1.0.1
 
