@@ -121,7 +121,7 @@ def program_words(program):
     if not hasattr(os, "memfd_create"):
         raise Trouble("Python 3.8 or newer, under Linux, is needed")
     if not os.path.exists(program_path(program)):
-        raise Trouble(f"the program is not there: 'rt check {program}' in {shown(ROOT)} proves and makes it, and 'bin/prove {program}' tells how far it is")
+        raise Trouble(f"the program is not there: 'bin/prove {program}' in {shown(ROOT)} proves and makes it, and tells how far it is")
     asked = subprocess.run([os.path.join(ROOT, "bin", "with-kit"), "--words", program], stdout=subprocess.PIPE, stderr=subprocess.DEVNULL)
     if asked.returncode:
         raise Trouble("the Rattle kit is not found: its command rt is not on the PATH, and RATTLE_HOME is not set")
@@ -414,7 +414,7 @@ def made(program):
         with open(program_path(program), "rb") as file:
             return f"SHA-256 {hashlib.sha256(file.read()).hexdigest()}"
     except OSError:
-        return f"is not there; 'rt check {program}' makes it"
+        return f"is not there; 'bin/prove {program}' makes it"
 
 
 def version():

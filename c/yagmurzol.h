@@ -18,7 +18,7 @@
  * No call changes a byte, keeps anything until the next, or needs memory other than its stack. So several threads may call at once.
  * Asked of the caller is what C asks of any pointer and length: that so many bytes can be read there.
  *
- * The library is target/staticlib/libhull.a, made by `rt staticlib hull`, for x86-64 programs and shared objects under Linux. */
+ * The library is target/staticlib/libhull.a, made by `bin/prove hull_c`, for x86-64 programs and shared objects under Linux. */
 #ifndef YAGMURZOL_H
 #define YAGMURZOL_H
 

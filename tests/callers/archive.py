@@ -1,6 +1,6 @@
 """What the archive gives, needs and keeps, as `nm` and `readelf` tell it.
 
-    archive.py LIBRARY [PREFIX]   PREFIX is that of the two tools, x86_64-linux-gnu- where they are the cross compiler's
+    archive.py LIBRARY
 
 It ends with 1 if the archive gives a name that isn't one of the header's functions, needs more than the four functions by which every
 C compiler moves and compares bytes, keeps anything from one call to the next, or wants a stack that can be executed."""
@@ -13,8 +13,7 @@ EVERYWHERE = {"memcpy", "memmove", "memset", "memcmp"}
 
 
 def told(tool, *options):
-    command = [(sys.argv[2] if len(sys.argv) > 2 else "") + tool, *options, sys.argv[1]]
-    return subprocess.run(command, check=True, stdout=subprocess.PIPE, universal_newlines=True).stdout.splitlines()
+    return subprocess.run([tool, *options, sys.argv[1]], check=True, stdout=subprocess.PIPE, universal_newlines=True).stdout.splitlines()
 
 
 # A name, its kind and, where it is given here, its place and size.

@@ -24,7 +24,7 @@ class Setting:
         self.programs = {name: words_of(name) for name in PROGRAMS}
         self.fleet = self.programs["fleet"]
         loader = pathlib.Path(self.fleet[self.fleet.index("--library-path") - 1])
-        self.kit = str(loader.parents[4])
+        self.kit = str(loader.parents[2])
         self.independent = blocks.Desk(ROOT, self.room)
         self.pool = self.independent.pool()
         self.pools = {"fleet": self.pool, "speeds": self.pool.speeds()}
@@ -83,13 +83,9 @@ class Setting:
         return root
 
     def kit_for_all(self):
-        """The kit's loader, its libraries and its emulator, where every user can read them."""
-        inside = pathlib.Path("on", os.uname().machine, "toolchain")
-        tools, made = self.kit / inside, self.room / "kit" / inside
-        shutil.copytree(tools / "lib", made / "lib")
-        (made / "bin").mkdir()
-        if (tools / "bin" / "qemu-x86_64").exists():
-            shutil.copy(tools / "bin" / "qemu-x86_64", made / "bin")
+        """The kit's loader and its libraries, where every user can read them."""
+        inside = pathlib.Path("toolchain", "lib")
+        shutil.copytree(self.kit / inside, self.room / "kit" / inside)
         open_to_all(self.room / "kit")
         return str(self.room / "kit")
 

@@ -59,7 +59,7 @@ SPEED_SPOILS = {
 
 def kit(place, name, spoil, unread=False):
     """A kit whose loader runs the program and does that to what it says of a marked block; or it reads nothing at all."""
-    folder = place.room / "kits" / name / "on" / os.uname().machine / "toolchain" / "lib"
+    folder = place.room / "kits" / name / "toolchain" / "lib"
     folder.mkdir(parents=True, exist_ok=True)
     loader = folder / "ld-linux-x86-64.so.2"
     loader.write_text(LOADER.format(python=sys.executable, words=repr(place.fleet[:-1]), marked=repr(MARKED), spoil=spoil, unread=unread))
@@ -132,7 +132,7 @@ def not_there(place):
     path = place.file(data)
     for name, words, given in (("a file", ["fleet", path], None), ("a pipe", ["fleet"], data), ("plain", ["fleet", "--plain", path], None),
                                ("two files", ["fleet", path, path], None), ("two files", ["speeds", path, path], None)):
-        told = said(f"desk: .*rt check {words[0]}\\b.*")
+        told = said(f"desk: .*bin/prove {words[0]}\\b.*")
         yield f"desk {words[0]}, no program, {name}", faults(place.desk(*words, given=given, root=copy), b"", told, 2)
 
 
@@ -142,7 +142,7 @@ def one_alone(place):
         copy = place.copy(f"only {PROGRAMS.index(there)}", programs=(there,))
         data, _, people = place.some(3, command=there)
         yield f"desk {there}, no {gone}", faults(place.desk(there, given=data, root=copy), people, status=1)
-        told = said(f"desk: (?!.*{there}).*rt check {gone}\\b.*")
+        told = said(f"desk: (?!.*{there}).*bin/prove {gone}\\b.*")
         yield f"desk {gone}, only {there}", faults(place.desk(gone, given=data, root=copy), b"", told, 2)
 
 

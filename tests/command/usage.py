@@ -23,7 +23,7 @@ def versions(number, root):
     """The command's own version, and what each program in that folder is."""
     text = f"desk {number}\n"
     for name, program in programs_of(root).items():
-        made = f"SHA-256 {hashlib.sha256(program.read_bytes()).hexdigest()}" if program.exists() else f"is not there; 'rt check {name}' makes it"
+        made = f"SHA-256 {hashlib.sha256(program.read_bytes()).hexdigest()}" if program.exists() else f"is not there; 'bin/prove {name}' makes it"
         text += f"{name} {made}\n"
     return text.encode()
 
