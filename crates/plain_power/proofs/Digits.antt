@@ -93,7 +93,7 @@ one_norm : Norm one
 one_norm = omega arith
 
 ends_norm : {x : Pair} → Ready x → (s : Side) → Norm (end s x)
-ends_norm ready s = elim s [ below ↦ ready.lo | above ↦ ready.hi ]
+ends_norm ready = elim [ below ↦ ready.lo | above ↦ ready.hi ]
 
 -- The powers 0 and 1.
 power_none : (s : Side) (x : Num) → LiesPower s (fraction one) (fraction x) (0 // 1)
@@ -116,8 +116,8 @@ pub none_held : (x : Pair) → Ready x → Held x 0 1 (unraised x)
 none_held x ready =
     let upper : LiesPower above (fraction (unraised x).hi) (fraction x.hi) (1 // 1) = power_self above x.hi in
     record {
-      norm = λ s. elim s [ below ↦ one_norm | above ↦ ready.hi ];
-      holds = λ s. elim s [ below ↦ power_none below x.lo | above ↦ upper ];
+      norm = elim [ below ↦ one_norm | above ↦ ready.hi ];
+      holds = elim [ below ↦ power_none below x.lo | above ↦ upper ];
       near = close_none ((2 ^ 30) ^ 5) ((2 ^ 30 + 1) ^ 5) (val x.hi) unit (lit≤ tt) (le_trans (mul-le-mul_right ((2 ^ 30) ^ 5) (val_high ready.hi)) (lit≤ tt));
     }
 
@@ -130,7 +130,7 @@ pub record Factor (x : Pair) (digit : ℕ) (y : Pair) : Type 0 where
 factor_is : (x : Pair) (digit : ℕ) → digit < 2 → Ready x → Factor x digit (digit_factor x digit)
 unfolding digit_factor
 factor_is x zero h ready =
-    record { norm = λ s. elim s [ below ↦ one_norm | above ↦ one_norm ]; holds = λ s. elim s [ below ↦ power_none below x.lo | above ↦ power_none above x.hi ]; near = lit≤ tt }
+    record { norm = elim [ below ↦ one_norm | above ↦ one_norm ]; holds = elim [ below ↦ power_none below x.lo | above ↦ power_none above x.hi ]; near = lit≤ tt }
 factor_is x (suc zero) h ready = record { norm = ends_norm ready; holds = λ s. power_self s (end s x); near = ready.near }
 factor_is x (suc (suc c)) h ready = absurd (not-suc-le-zero (le_of_suc-le-suc (le_of_suc-le-suc h)))
 
@@ -138,7 +138,7 @@ factor_is x (suc (suc c)) h ready = absurd (not-suc-le-zero (le_of_suc-le-suc (l
 one_exponent : (s : Side) (d n c : ℕ) → 0 < n → (reached s d // n ⊹ c // 1) · 1 // 2 ≈ reached s (d + c * n) // (n * 2)
 one_exponent s d n c pos =
     let twice : 0 < n * 2 = omega arith in
-    elim s [
+    elim s as (λ s. (reached s d // n ⊹ c // 1) · 1 // 2 ≈ reached s (d + c * n) // (n * 2)) [
       | below ↦ record { cross = rw (suc-pred-eq_of_pos pos, suc-pred-eq_of_pos twice) (omega arith) }
       | above ↦ record { cross = rw (suc-pred-eq_of_pos pos, suc-pred-eq_of_pos twice) (omega arith) }
     ]
@@ -184,11 +184,12 @@ raise_held x p rest (suc left) d n ready pos h held =
     let next = one_held d n (lowest rest) pos factor (means_are held.norm factor.norm) held in
     let all : d + lowest rest * n + n * 2 * higher rest ≡ d + n * rest = omega (arith, ap (λ (z : ℕ). n * z) (parts rest)) in
     let turns : n * 2 * 2 ^ left ≡ n * 2 ^ suc left = rw (pow-suc 2 left) (omega arith) in
-    rw (all, turns) at (raise_held x _ (higher rest) left (d + lowest rest * n) (n * 2) ready (omega arith) (omega arith) next)
+    rw (all, turns) at (raise_held x (means_of p (digit_factor x (lowest rest))) (higher rest) left (d + lowest rest * n) (n * 2) ready (omega arith) (omega arith) next)
 
 -- One digit, and none.
 pub raise_next : (x p : Pair) (rest left : ℕ) → 0 < left → raise_of x (means_of p (digit_factor x (lowest rest))) (higher rest) (left - 1) ≡ raise_of x p rest left
 unfolding raise_of
+raise_next x p rest zero pos = elim pos [ ]
 raise_next x p rest (suc left) pos = let e : suc left - 1 ≡ left = omega arith in rw e
 
 pub raise_end : (x p : Pair) (rest left : ℕ) → left ≤ 0 → p ≡ raise_of x p rest left

@@ -7,7 +7,7 @@ use native.Mathlib.Omega.{arith}
 use lib.Dec.{eqb, lit<}
 use borrow.Author.Tests.{eqb-true, eqb-false}
 use Rattle.formula.specs.Words.{if}
-use Rattle.formula.specs.Formula.{◌//◌, ◌≼◌, below, above, other, lies}
+use Rattle.formula.specs.Formula.{◌//◌, ◌≼◌, below, above, other}
 use Rattle.formula.proofs.Fractions.{≼_refl, over-≼}
 use Rattle.formula.proofs.Formulas.{power_between}
 use Rattle.formula.proofs.Powers.{power_base, up_below, up_above}

@@ -129,5 +129,5 @@ module _ {a b : ℕ} (pos : 1 ≤ b) (ba : b ≤ a) (ab : a ≤ b * 2 ^ 20) wher
           let small : n.e ≤ 20 = leads_small quotient_high c in
           record {
             ready = record { lo = omega (arith, c.low); hi = omega (arith, c.low); near = next_is n.m (2 ^ n.e) c.low };
-            holds = λ s. elim s [ below ↦ at_most (down c) | above ↦ at_least (up c) ];
+            holds = elim [ below ↦ at_most (down c) | above ↦ at_least (up c) ];
           }

@@ -172,8 +172,8 @@ means_are {p} {y} np ny =
     let low : fraction lo · fraction lo ≼ fraction p.lo · fraction y.lo = omega (arith, down) in
     let high : fraction p.hi · fraction y.hi ≼ fraction (next hi) · fraction (next hi) = omega (arith, up) in
     record {
-      norm = λ s. elim s [ below ↦ omega (arith, l) | above ↦ omega (arith, h) ];
-      holds = λ s. elim s [ below ↦ at_most low | above ↦ at_least high ];
+      norm = elim [ below ↦ omega (arith, l) | above ↦ omega (arith, h) ];
+      holds = elim [ below ↦ at_most low | above ↦ at_least high ];
       lo_loss = omega (arith, loss lo.m (2 ^ lo.e) l.low, l.next_above);
       hi_loss = omega (arith, loss hi.m (2 ^ hi.e) h.low, h.at_most);
     }

@@ -1,5 +1,7 @@
 // The plain power: (a/b)^(p/q) by square roots, a binary digit of the exponent after the other, under the promises of `power`. No room of the
 // desk asks for it; it shows how a power comes about, and the tests hold the two to each other.
+#![tactic(auto)]
+
 ghost use Rattle.std.specs.Prelude.{◌≡◌, ◌+◌, ◌*◌, ◌^◌, ◌≤◌, ◌<◌};
 ghost use Rattle.root.specs.Root.{Root};
 ghost use Rattle.plain_power.specs.Numbers.{val, Norm, Ready};
@@ -10,13 +12,13 @@ ghost use Rattle.plain_power.specs.Plain.{plain_of};
 use power::Bounds;
 
 // m * 2^e, in units of 2^-30.
-#[derive(Drop)]
+#[derive(Clone, Copy)]
 struct Num {
     pub m: u64,
     pub e: u64,
 }
 
-#[derive(Drop)]
+#[derive(Clone, Copy)]
 struct Pair {
     pub lo: Num,
     pub hi: Num,
