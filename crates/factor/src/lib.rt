@@ -1,4 +1,6 @@
 // f_c, the capacity factor of light cargoes, and f_l, that of cranes, enclosed between two whole numbers of units of 2^-30.
+#![tactic(auto)]
+
 ghost use Rattle.std.specs.Prelude.{◌≡◌, ℕ, ◌≤◌, ◌<◌, get_or};
 ghost use Rattle.ship.specs.Record.{no_crane};
 ghost use Rattle.ship.specs.Figures.{deadweight_of, last_edition, edition_of, crane_of, cranes_of, figures};
