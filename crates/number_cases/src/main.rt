@@ -2,8 +2,11 @@
 // asked and up to four numbers, and its answer is a line of numbers, or `-` where the numbers are outside the function's domain.
 // Asked is 1 the square root of a; 2 its plain cube root; 3 the cube root of a/b; 4 a/b in millionths, rounded down and up;
 // 5 the power (a/b)^(c/d); 6 the plain power; 7 a/b in units of 10^-15, rounded down and up; 8 the quick cube root of a.
+
+#![tactic(auto)]
+
 use fields::number_at;
-use libc::{STDIN_FILENO, STDOUT_FILENO};
+use std::io::Read;
 
 #[derive(Drop)]
 struct Case {
@@ -20,108 +23,102 @@ struct Word {
     value: u64,
 }
 
-fn next_word() -> Word {
+fn next_word<R: Read>(input: &mut R) -> Word {
     let mut b = [0u8; 8];
-    let got = io::read_full(STDIN_FILENO, &mut b);
+    let whole = input.read_exact(&mut b).is_ok();
     let value = number_at(&b, 0, 8);
-    Word {
-        whole: got == 8,
-        value,
-    }
+    Word { whole, value }
 }
 
-fn outside() {
-    io::write_all(STDOUT_FILENO, b"-\n");
+fn outside(rt: &impl Print) {
+    let _ = println!(rt; "-");
 }
 
-fn one(x: u64) {
-    io::print_decimal(STDOUT_FILENO, x);
-    io::write_all(STDOUT_FILENO, b"\n");
+fn one(rt: &impl Print, x: u64) {
+    let _ = println!(rt; "{x}");
 }
 
-fn two(x: u64, y: u64) {
-    io::print_decimal(STDOUT_FILENO, x);
-    io::write_all(STDOUT_FILENO, b" ");
-    one(y);
+fn two(rt: &impl Print, x: u64, y: u64) {
+    let _ = print!(rt; "{x} ");
+    one(rt, y);
 }
 
-fn ratio(n: u64, d: u64) {
+fn ratio(rt: &impl Print, n: u64, d: u64) {
     if d == 0 {
-        outside();
+        outside(rt);
         return;
     }
     if 1099511627776 <= n {
-        outside();
+        outside(rt);
         return;
     }
     if 8 * n < d {
-        outside();
+        outside(rt);
         return;
     }
     let r = number::ratio::cube_root(n, d);
-    io::print_decimal(STDOUT_FILENO, r.scale);
-    io::write_all(STDOUT_FILENO, b" ");
-    two(r.low, r.high);
+    let _ = print!(rt; "{} ", r.scale);
+    two(rt, r.low, r.high);
 }
 
-fn millionths(n: u64, d: u64) {
+fn millionths(rt: &impl Print, n: u64, d: u64) {
     if d == 0 {
-        outside();
+        outside(rt);
         return;
     }
     if 1000000000000000000 < d {
-        outside();
+        outside(rt);
         return;
     }
     if 8796093022208 <= n {
-        outside();
+        outside(rt);
         return;
     }
     let q = number::division::both_scaled(n, d, 10, 6);
-    two(q.down, q.up);
+    two(rt, q.down, q.up);
 }
 
 // Its quotient fits 63 bits: 9223 * 10^15 is below 2^63.
-fn long_quotient(n: u64, d: u64) {
+fn long_quotient(rt: &impl Print, n: u64, d: u64) {
     if d == 0 {
-        outside();
+        outside(rt);
         return;
     }
     if 9223372036854775808 <= d {
-        outside();
+        outside(rt);
         return;
     }
     if d <= n / 9223 {
-        outside();
+        outside(rt);
         return;
     }
     let q = number::division::both_scaled(n, d, 100000, 3);
-    two(q.down, q.up);
+    two(rt, q.down, q.up);
 }
 
-fn raised(plain: bool, a: u64, b: u64, p: u64, q: u64) {
+fn raised(rt: &impl Print, plain: bool, a: u64, b: u64, p: u64, q: u64) {
     if a < b {
-        outside();
+        outside(rt);
         return;
     }
     if 4294967296 <= a {
-        outside();
+        outside(rt);
         return;
     }
     if b * 1048576 < a {
-        outside();
+        outside(rt);
         return;
     }
     if q <= p {
-        outside();
+        outside(rt);
         return;
     }
     if 16777216 <= q {
-        outside();
+        outside(rt);
         return;
     }
     if b == 0 {
-        outside();
+        outside(rt);
         return;
     }
     let r = if plain {
@@ -129,55 +126,59 @@ fn raised(plain: bool, a: u64, b: u64, p: u64, q: u64) {
     } else {
         power::power(a, b, p, q)
     };
-    two(r.lo, r.hi);
+    two(rt, r.lo, r.hi);
 }
 
-fn answer(k: Case) {
+fn answer(rt: &impl Print, k: Case) {
     let asked = k.asked;
     match asked {
-        1 => one(root::square_root(k.a)),
-        2 => one(root::cube_root(k.a)),
-        3 => ratio(k.a, k.b),
-        4 => millionths(k.a, k.b),
-        5 => raised(false, k.a, k.b, k.c, k.d),
-        6 => raised(true, k.a, k.b, k.c, k.d),
-        7 => long_quotient(k.a, k.b),
-        8 => one(quick_root::cube_root(k.a)),
-        _ => outside(),
+        1 => one(rt, root::square_root(k.a)),
+        2 => one(rt, root::cube_root(k.a)),
+        3 => ratio(rt, k.a, k.b),
+        4 => millionths(rt, k.a, k.b),
+        5 => raised(rt, false, k.a, k.b, k.c, k.d),
+        6 => raised(rt, true, k.a, k.b, k.c, k.d),
+        7 => long_quotient(rt, k.a, k.b),
+        8 => one(rt, quick_root::cube_root(k.a)),
+        _ => outside(rt),
     }
 }
 
 // One case, and whether it was whole.
-fn next_case() -> bool {
-    let asked = next_word();
-    let a = next_word();
-    let b = next_word();
-    let c = next_word();
-    let d = next_word();
+fn next_case<R: Read>(rt: &impl Print, input: &mut R) -> bool {
+    let asked = next_word(input);
+    let a = next_word(input);
+    let b = next_word(input);
+    let c = next_word(input);
+    let d = next_word(input);
     let whole = d.whole;
     if whole {
-        answer(Case {
-            asked: asked.value,
-            a: a.value,
-            b: b.value,
-            c: c.value,
-            d: d.value,
-        });
+        answer(
+            rt,
+            Case {
+                asked: asked.value,
+                a: a.value,
+                b: b.value,
+                c: c.value,
+                d: d.value,
+            },
+        );
     }
     whole
 }
 
 // At most a million cases; a piece shorter than a case ends the run.
-fn run() {
+fn run(rt: HostRuntime) {
+    let mut input = rt.stdin();
     let mut n: u64 = 0;
     while n < 1000000 {
-        if !next_case() {
+        if !next_case(&rt, &mut input) {
             return;
         }
         n += 1;
     }
 }
 
-fn main() {
-    run();
+fn main(rt: HostRuntime) {
+    run(rt);
 }
