@@ -26,7 +26,7 @@ use Rattle.propeller.specs.Propeller.{pair, Parted, Speed}
 use Rattle.statistical.specs.Curves.{average_of, less_margin_of, statistical_of}
 use Rattle.propeller.proofs.Products.{Product, product_is}
 use Rattle.statistical.proofs.Rows.{row_fits, two_cuts, sized_within}
-use Rattle.propeller.proofs.Sides.{at, some_at, power_at, farther, shape, Cubes, cubes, capped_root}
+use Rattle.propeller.proofs.Sides.{at, Upto, some_at, power_at, farther, shape, Cubes, cubes, capped_root}
 use Rattle.statistical.proofs.Reach.{spread, apart, slowest, fastest}
 
 -- ── V_avg ───────────────────────────────────────────────────────────────────────────────────
@@ -77,7 +77,7 @@ module _ (kind : Kind) (dwt : Deadweight) (w : Within 100 600000 dwt.tonnes) whe
           let l = mul-le-mul (row_fits kind).1.a_low p.low in
           let pos : 0 < (row kind).A * 100000 = omega (arith, (row_fits kind).1.a_low) in
           record {
-            holds = λ s. farther s (at s x) unit _ _ _ _ _ _ pos (lit< tt) (elim s [ below ↦ omega arith | above ↦ omega arith ]) (power_at p s);
+            holds = λ s. farther s (at s x) unit _ _ _ _ _ _ pos (lit< tt) (elim s as (λ s. Upto s (at s (pair ((row kind).A * 3125 * x.lo / 33554432) ((row kind).A * 3125 * x.hi / 33554432 + 1)) * unit) (at s x * ((row kind).A * 100000))) [ below ↦ omega arith | above ↦ omega arith ]) (power_at p s);
             near = omega arith;
             low = omega arith;
             order = omega arith;
@@ -193,10 +193,11 @@ module _ (kind : Kind) (dwt : Deadweight) (P : ℕ) (w : Within 100 600000 dwt.t
     margin_side : (s : Side) → bounds s (less_margin (V_avg kind dwt)) (at s (based v o).base // 1000000000)
     margin_side s =
         let m = margin_bounds (average_bounds kind dwt w a below) (average_bounds kind dwt w a above) (kept v.lo) (kept v.hi) in
-        elim s [ below ↦ m.low | above ↦ m.high ]
+        elim s as (λ s. bounds s (less_margin (V_avg kind dwt)) (at s (based v o).base // 1000000000)) [ below ↦ m.low | above ↦ m.high ]
 
     base_some : (s : Side) → 0 < at s (based v o).base
-    base_some s = elim s [ below ↦ omega (arith, (split_parted a law).low) | above ↦ omega arith ]
+    base_some below = omega (arith, (split_parted a law).low)
+    base_some above = omega arith
 
     over_some : (s : Side) → 0 < at s o
     over_some = some_at (omega (arith, law.low)) law.order

@@ -1,4 +1,6 @@
 // The reference speed by method 4, the statistical curves.
+#![tactic(auto)]
+
 ghost use Rattle.std.specs.Prelude.{◌≡◌, ◌^◌, ◌≤◌};
 ghost use Rattle.exact.specs.Index.{sized};
 ghost use Rattle.ship.specs.Accepted.{Within};
