@@ -1,4 +1,6 @@
 // f_j, the power correction factor of general cargo ships, enclosed between two whole numbers of units of 2^-30.
+#![tactic(auto)]
+
 ghost use Rattle.std.specs.Prelude.{◌≡◌, ◌*◌, ◌^◌, ◌≤◌};
 ghost use Rattle.ship.specs.Accepted.{Within, Shaped};
 ghost use Rattle.ship.specs.Figures.{hull_of};
