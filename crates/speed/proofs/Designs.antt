@@ -1,18 +1,18 @@
 -- Method 3: the cube root of k, and the trial's deadweight over Capacity to the power 2/9. Assumes nothing.
 use mathlib.Core.Path.{◌≡◌, refl}
 use mathlib.Core.Bool.{Bool, true, false}
-use Prim.Native.Nat.{ℕ, ◌+◌, ◌*◌, ◌^◌, ◌≤◌, ◌<◌}
+use Prim.Native.Nat.{ℕ, ◌/◌, ◌+◌, ◌*◌, ◌^◌, ◌≤◌, ◌<◌}
 use native.Mathlib.Nat.{le_trans, le_refl, mul-pos, mul-le-mul, mul-le-mul_left, mul-le-mul_right, le_of_mul-le-mul_right, suc-pred-eq_of_pos}
 use native.Mathlib.Omega.{arith}
 use lib.Dec.{leb, lit<, lit≤}
 use borrow.Author.Tests.{leb-true, leb-false}
-use Rattle.formula.specs.Formula.{◌//◌, ◌·◌, Side, below, above, other, at_most, at_least, Formula, lit, ◌⊗◌, ◌⊘◌, ◌↑◌, bounds, by_lit, by_product, by_quotient, by_power}
+use Rattle.formula.specs.Formula.{◌//◌, ◌·◌, Side, below, above, other, Formula, lit, ◌⊗◌, ◌⊘◌, ◌↑◌, bounds, by_lit, by_product, by_quotient, by_power}
 use Rattle.exact.specs.Ship.{Deadweight, Kind, bulk, gas, tanker, container, refrigerated, combination, vehicle, general, design_trial}
 use Rattle.formula.specs.Words.{whole, percent, if}
 use Rattle.exact.specs.Index.{Capacity, V_ref}
 use Rattle.exact.specs.Index as rules
 use Rattle.formula.proofs.Fractions.{◌≈◌, lies_refl, lies-≈}
-use Rattle.number.specs.Division.{Floor, Ceil}
+use Rattle.number.specs.Division.{ceil_of, Floor, Ceil}
 use Rattle.number.proofs.Divisions.{floor_is, ceil_is, floor_greatest, ceil_least}
 use Rattle.number.proofs.Gaps.{Gap, gap_product, gap_times, gap_cut}
 use Rattle.power.specs.declared.Bounds.{Bounds}
@@ -62,7 +62,7 @@ module _ (n : ℕ) (w : Within 90 100 n) where
           capped y.lo unit 100 n 1 3 10 9 25 24 (lit< tt) some (lit< tt) (lit< tt) (lit< tt) (omega (arith, w.least)) (lit≤ tt) p.encloses_below in
           record {
             holds =
-                λ s. farther s unit _ _ 1000000000 n 100 1 3 (lit< tt) (some_at pos p.order (other s)) (elim s [ below ↦ f.at_most | above ↦ c.at_least ])
+                λ s. farther s unit _ _ 1000000000 n 100 1 3 (lit< tt) (some_at pos p.order (other s)) (elim s as (λ s. Upto s (at s (pair lo hi) * at (other s) y) 1073741824000000000) [ below ↦ f.at_most | above ↦ c.at_least ])
                 (inverse_at (lit< tt) some (lit< tt) p s);
             size =
                 record {
@@ -192,7 +192,7 @@ module _ {v : ℕ} {g : Bounds} {a b : ℕ} (w : Within 500 6000 v) (c : Factor 
       let fl = floor_is (g.lo * x.lo) (2 ^ 30) (lit< tt) in
       let ce = ceil_is (g.hi * x.hi) (2 ^ 30) (lit< tt) in
       designed (λ s. at s x) (λ s. unit) (times_close c f p fl ce) (le_refl _) (le_refl _) (lit≤ tt) (lit≤ tt) (lit≤ tt) (λ s. lit< tt)
-      (λ s. elim s [ below ↦ omega (arith, fl.at_most) | above ↦ omega (arith, ce.at_least) ]) (power_at p)
+      (λ s. elim s as (λ s. Upto s (at s (pair (g.lo * x.lo / 2 ^ 30) (ceil_of (g.hi * x.hi) (2 ^ 30))) * 2 ^ 30 * unit) (at s x * at s g * at (other s) (pair (2 ^ 30) (2 ^ 30)))) [ below ↦ omega (arith, fl.at_most) | above ↦ omega (arith, ce.at_least) ]) (power_at p)
 
   pub down_parts : a ≤ b → DesignParts v g a b (down_of v g a b)
   unfolding down_of
@@ -200,7 +200,7 @@ module _ {v : ℕ} {g : Bounds} {a b : ℕ} (w : Within 500 6000 v) (c : Factor 
       let x = power_of b a 2 9 in
       let p = power_law (fives_raisable (turned f) h) in
       designed (λ s. unit) (λ s. at (other s) x) (factor_close c) p.low p.order p.high p.near (power_most (turned f) p)
-      (λ s. some_at (omega (arith, p.low)) p.order (other s)) (λ s. elim s [ below ↦ omega arith | above ↦ omega arith ]) (inverse_at f.b_low f.a_low (lit< tt) p)
+      (λ s. some_at (omega (arith, p.low)) p.order (other s)) (λ s. elim s as (λ s. Upto s (at s g * 2 ^ 30 * at (other s) x) (unit * at s g * at (other s) x)) [ below ↦ omega arith | above ↦ omega arith ]) (inverse_at f.b_low f.a_low (lit< tt) p)
 
   pub parts : DesignParts v g a b (parts_of v g a b)
   unfolding parts_of

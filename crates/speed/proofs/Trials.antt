@@ -37,7 +37,8 @@ five x y n d pos near h =
 module _ {p : Split} {kW P : ℕ} {r : Bounds} (parted : Parted p) (x : Product p P (kW * 100) r) (pos : 1 ≤ kW) (near : Near (100 * kW) P)
     (fast : 4750000000 ≤ p.base.hi) (slow : p.base.lo ≤ 86250000000) (thin : p.over.lo ≤ 23 * 2 ^ 26) where
   base_some : (s : Side) → 0 < at s p.base * 2 ^ 30
-  base_some s = elim s [ below ↦ omega (arith, parted.low) | above ↦ omega arith ]
+  base_some below = omega (arith, parted.low)
+  base_some above = omega arith
 
   over_some : (s : Side) → 0 < at s p.over * 1000000000
   over_some s = mul-pos (some_at (omega (arith, parted.over_low)) parted.over_order s) (lit< tt)
@@ -75,4 +76,5 @@ trial_speed {v} kind dwt w pos top near =
     same = omega arith
 
     base : (s : Side) → bounds s (lit (v // 100)) ((at s (exactly (v * 10000000)) * 2 ^ 30) // (at (other s) (exactly (2 ^ 30)) * 1000000000))
-    base s = elim s [ below ↦ by_lit (lies-≈ below (≈-sym same)) | above ↦ by_lit (lies-≈ above (≈-sym same)) ]
+    base below = by_lit (lies-≈ below (≈-sym same))
+    base above = by_lit (lies-≈ above (≈-sym same))

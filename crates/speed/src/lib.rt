@@ -1,4 +1,6 @@
 // The reference speed by each of the four methods, in millionths of a knot, from below and from above.
+#![tactic(auto)]
+
 ghost use Rattle.std.specs.Prelude.{◌≡◌, ◌*◌, ◌^◌, ◌≤◌};
 ghost use Rattle.exact.specs.Index.{Capacity, k};
 ghost use Rattle.ship.specs.Accepted.{Within, Near, ByDesignDraught};
