@@ -40,7 +40,7 @@ def missing(text, names):
 
 def main():
     names = declared()
-    if missing("| x | `no-such-law`, exact/Rules `P-ME-limited`, exact/no_such_edit |", names) != ["no-such-law", "exact/no_such_edit"]:
+    if missing("| x | `no-such-law`, exact/Rules `P_ME_limited`, exact/no_such_edit |", names) != ["no-such-law", "exact/no_such_edit"]:
         sys.exit("promises: a name that isn't there went unseen")
     for document in ("RULES", "PROMISES", "LAST-DIGITS"):
         gone = missing(open(f"{ROOT}/docs/{document}.md", encoding="utf-8").read(), names)
