@@ -1,5 +1,5 @@
 -- The main engines' emissions with f_j, of every type. Assumes nothing.
-use Prim.Native.Nat.{ℕ, ◌+◌, ◌*◌, ◌^◌, ◌≤◌, ◌<◌}
+use Prim.Native.Nat.{ℕ, ◌*◌, ◌^◌, ◌≤◌, ◌<◌}
 use mathlib.Core.Path.{◌≡◌, refl}
 use native.Mathlib.Nat.{le_refl, le_trans, mul-le-mul, mul-le-mul_left, mul-le-mul_right}
 use native.Mathlib.Omega.{arith}
@@ -9,15 +9,13 @@ use Rattle.formula.specs.Words.{whole}
 use Rattle.exact.specs.Ship.{Kind, bulk, gas, tanker, container, refrigerated, combination, vehicle, general, Hull}
 use Rattle.exact.specs.Index.{f_j}
 use Rattle.formula.proofs.Formulas.{enclosed_wider, enclosed_lit, enclosed_product}
-use Rattle.number.specs.Product.{scaled_down, scaled_up}
 use Rattle.number.proofs.Divisions.{floor_greatest, ceil_least, floor_order, ceil_order}
 use Rattle.number.proofs.Gaps.{Gap, gap_more}
 use Rattle.number.proofs.Products.{scaled_floor, scaled_ceil, scaled_order}
 use Rattle.power.specs.declared.Bounds.{Bounds}
-use Rattle.power.specs.Numbers.{unit}
 use Rattle.ship.specs.Accepted.{Shaped}
 use Rattle.propeller.specs.Propeller.{exactly, Speed}
-use Rattle.correction.specs.Correction.{general_of, Corrected}
+use Rattle.correction.specs.Correction.{general_of}
 use Rattle.correction.proofs.Laws.{fast_of, general_law, general_near, scaled_encloses, scaled_near}
 use Rattle.index.specs.Attained.{main_of}
 

@@ -1,5 +1,7 @@
 // The index in millionths, from below and from above, of a record that no rule refuses. Speed and index are two functions,
 // the index taking the speeds.
+#![tactic(auto)]
+
 ghost use Rattle.std.specs.Prelude.{◌≡◌, ◌≤◌};
 ghost use Rattle.ship.specs.Figures.{kind_of, Listed, hull_of, figures};
 ghost use Rattle.ship.specs.Accepted.{Shaped};
@@ -12,13 +14,13 @@ use power::Bounds;
 use ship::{Hull, Range, Ship};
 
 // The speed of the most and of the least favourable ship, in millionths of a knot.
-#[derive(Drop)]
+#[derive(Clone, Copy)]
 pub struct SpeedBounds {
     pub most: Bounds,
     pub least: Bounds,
 }
 
-#[derive(Drop)]
+#[derive(Clone, Copy)]
 pub struct Index {
     pub lower: u64,
     pub upper: u64,
