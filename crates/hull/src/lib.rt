@@ -1,4 +1,6 @@
-// What a yard's design program calls from C; c/yagmurzol.h says it in C's words. There a slice is a pointer and a length.
+// What a yard's design program calls from C, by the exports of `hull_c`; c/yagmurzol.h says it in C's words.
+#![tactic(auto)]
+
 ghost use Rattle.std.specs.Prelude.{◌≡◌, ◌<◌, ◌^◌};
 ghost use Rattle.desk.specs.Answers.{answer_of_block, number_in, lower_in, upper_in};
 ghost use Rattle.desk.specs.Steps.{speeds_answer_of_block, index_answer_of_block};
@@ -55,40 +57,35 @@ fn told(answer: Answer) -> Found
 }
 
 // All of the answer, from one reading of the block.
-#[unsafe(no_mangle)]
-pub extern "C" fn yagmurzol_ask(block: &[u8]) -> Found
+pub fn yagmurzol_ask(block: &[u8]) -> Found
     ensures { result ≡ found_in (answer_of_block block.now) }
 {
     let answer = desk::bounds_of_block(block);
     told(answer)
 }
 
-#[unsafe(no_mangle)]
-pub extern "C" fn yagmurzol_refusal(block: &[u8]) -> u8
+pub fn yagmurzol_refusal(block: &[u8]) -> u8
     ensures { result ≡ number_in (answer_of_block block.now) }
 {
     let all = yagmurzol_ask(block);
     all.refusal
 }
 
-#[unsafe(no_mangle)]
-pub extern "C" fn yagmurzol_lower(block: &[u8]) -> u64
+pub fn yagmurzol_lower(block: &[u8]) -> u64
     ensures { result ≡ lower_in (answer_of_block block.now) }
 {
     let all = yagmurzol_ask(block);
     all.lower
 }
 
-#[unsafe(no_mangle)]
-pub extern "C" fn yagmurzol_upper(block: &[u8]) -> u64
+pub fn yagmurzol_upper(block: &[u8]) -> u64
     ensures { result ≡ upper_in (answer_of_block block.now) }
 {
     let all = yagmurzol_ask(block);
     all.upper
 }
 
-#[unsafe(no_mangle)]
-pub extern "C" fn yagmurzol_doubles(block: &[u8]) -> Pair
+pub fn yagmurzol_doubles(block: &[u8]) -> Pair
     ensures { result ≡ (found_in (answer_of_block block.now)).pair }
 {
     let all = yagmurzol_ask(block);
@@ -124,8 +121,7 @@ fn in_knots(v: Bounds) -> Knots
 }
 
 // The speed by itself.
-#[unsafe(no_mangle)]
-pub extern "C" fn yagmurzol_speeds(block: &[u8]) -> FoundSpeeds
+pub fn yagmurzol_speeds(block: &[u8]) -> FoundSpeeds
     ensures { result ≡ found_speeds_in (speeds_answer_of_block block.now) }
 {
     let answer = desk::speeds_of_block(block);
@@ -153,8 +149,7 @@ fn bounds_of(v: Knots) -> Bounds
 }
 
 // The index from a block and speed bounds.
-#[unsafe(no_mangle)]
-pub extern "C" fn yagmurzol_index(block: &[u8], most: Knots, least: Knots) -> Found
+pub fn yagmurzol_index(block: &[u8], most: Knots, least: Knots) -> Found
     ensures { result ≡ found_in (index_answer_of_block block.now (handed most least)) }
 {
     let v = SpeedBounds {
