@@ -259,7 +259,7 @@ narrowing t t' n =
 -- ── The records that demands 2 and 3 speak of ───────────────────────────────────────────────
 
 -- Every value of the record's type with no refusal, and what is read from an accepted block.
-pub value_accepted : (s : Ship) (vs : List Val) → shadow ((row the_type).own s vs) → refusal_of s ≡ None → AcceptedRecord s
+pub value_accepted : (s : Ship) (vs : List Val) → shadow ((row the_type).own_val s vs) → refusal_of s ≡ None → AcceptedRecord s
 value_accepted s vs g e = record { entries = all_entries s vs g; none = e }
 
 pub block_record_accepted : (b : List ℕ) → read_refusal b ≡ None → AcceptedRecord (read_of b).ship

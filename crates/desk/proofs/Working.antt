@@ -1,7 +1,6 @@
 -- What comes of each step in each case, and what answer that is.
 -- Assumes nothing.
-use Prim.Native.Nat.{ℕ}
-use mathlib.Core.Path.{◌≡◌, refl, sym, ap, ◌∙◌}
+use mathlib.Core.Path.{◌≡◌, refl, sym, ◌∙◌}
 use mathlib.Core.Bool.{Bool, true, false, not}
 use native.Mathlib.Omega.{arith}
 use borrow.Author.Tests.{ne_eqb, not-false}
@@ -20,7 +19,6 @@ use Rattle.desk.specs.Steps.{own_speeds, same, speeds_by}
 use Rattle.desk.specs.Worked.{speed_alone, foreign, step_refusal, no_index, nothing, with_index, worked_as, worked_by, answer_found, speeds_found}
 use Rattle.desk.specs.declared.Step.{Step}
 use Rattle.desk.specs.declared.Step.TheVariants.{Whole, Speed, Index}
-use Rattle.desk.specs.declared.Worked.{Worked}
 use Rattle.desk.specs.declared.Answer.TheVariants as answer
 use Rattle.desk.specs.declared.SpeedAnswer.TheVariants as speeds
 use Rattle.desk.proofs.Stepping.{own_first, own_passed, other_refused}

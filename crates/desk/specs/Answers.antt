@@ -1,6 +1,6 @@
 -- The desk's answers, and this paper's number and values for each case.
 -- Assumes nothing.
-use Rattle.std.specs.Prelude.{ℕ, ◌*◌, ◌≤◌, ◌≡◌, List, eqb, length}
+use Rattle.std.specs.Prelude.{ℕ, ◌*◌, ◌≤◌, ◌≡◌, List, eqb}
 use Rattle.formula.specs.Words.{if}
 use Rattle.exact.specs.Ship.{vehicle}
 use Rattle.ship.specs.Record.{Entries}

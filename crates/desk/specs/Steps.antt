@@ -2,7 +2,6 @@
 -- Assumes nothing.
 use Rattle.std.specs.Prelude.{ℕ, List, [], ◌∷◌, Bool, not, ◌&&◌, eqb}
 use Rattle.formula.specs.Words.{if}
-use Rattle.power.specs.declared.Bounds.{Bounds}
 use Rattle.ship.specs.Refusals.{number_of, first_of}
 use Rattle.ship.specs.Rules.{refusal_of}
 use Rattle.ship.specs.Figures.{figures}

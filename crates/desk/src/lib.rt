@@ -1,4 +1,6 @@
 // The face of the desk: one answer for every record and for every slice of bytes. Nothing has to be checked beforehand.
+#![tactic(auto)]
+
 ghost use Rattle.std.specs.Prelude.{◌≡◌};
 ghost use Rattle.ship.specs.Rules.{refusal_of};
 ghost use Rattle.desk.specs.Answers.{answer_of, answer_of_block};
@@ -11,14 +13,14 @@ use power::Bounds;
 use ship::{Refusal, Ship};
 
 // The two bounds of the index in millionths, or the first rule broken.
-#[derive(Drop)]
+#[derive(Clone, Copy)]
 pub enum Answer {
     Bounds(Index),
     Refused(Refusal),
 }
 
 // The speed bounds of the most and of the least favourable ship in millionths of a knot, or the first rule broken.
-#[derive(Drop)]
+#[derive(Clone, Copy)]
 pub enum SpeedAnswer {
     Speeds(SpeedBounds),
     Refused(Refusal),
@@ -27,7 +29,7 @@ pub enum SpeedAnswer {
 // ── One way for all ─────────────────────────────────────────────────────────────────────────────
 
 // What is asked for: the index in one call, the speed by itself, or the index from speed bounds that are handed in.
-#[derive(Drop)]
+#[derive(Clone, Copy)]
 enum Step {
     Whole,
     Speed,
@@ -36,7 +38,7 @@ enum Step {
 
 // What comes of it: the refusal, None for none; with none the speed bounds and, unless the speed alone was asked for, the index. Its two
 // bounds stand apart, because a processor waits where it reads at once what was just written one by one.
-#[derive(Drop)]
+#[derive(Clone, Copy)]
 struct Worked {
     refusal: Refusal,
     lower: u64,
