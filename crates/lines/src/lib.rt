@@ -1,4 +1,6 @@
 // The lines of the program: for each block its number and the desk's answer.
+#![tactic(auto)]
+
 ghost use Rattle.std.specs.Prelude.{◌≡◌, ◌+◌, ◌-◌, ◌*◌, ◌≤◌, ◌<◌, ltb, length};
 ghost use Rattle.formula.specs.Words.{if};
 ghost use Rattle.decimal.specs.Digits.{Put};
