@@ -1,6 +1,6 @@
 -- The program's batches: with which block each begins, and after which there is no other.
 -- Assumes nothing.
-use Rattle.std.specs.Prelude.{ℕ, ◌+◌, ◌%◌, ◌<◌, ◌≡◌, Bool, true, ◌&&◌, ltb}
+use Rattle.std.specs.Prelude.{◌+◌, ◌%◌, ◌<◌, ◌≡◌, Bool, true, ◌&&◌, ltb}
 use Rattle.fleet.specs.declared.Batch.{Batch}
 
 -- Blocks are numbered from 0.
