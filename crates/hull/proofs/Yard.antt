@@ -99,10 +99,13 @@ module _ (b : List ℕ) where
       alone : (found b).pair ≡ empty_pair → (found b).refusal ≡ 0 → ⊥
       alone e h = let z = doubles.zero_alone _ small.1 (ap (λ p. p.upper) e) in omega (arith, z, bounded h)
 
+  refusal_1 : number_in (answer_of_block b) ≡ 1 → found b ≡ found_of 1 0 0
+  refusal_1 one = refused (λ z. omega (arith, z, one)) ∙ ap (λ (n : ℕ). found_of n 0 0) (sym numbered ∙ one)
+
   -- Any length but that of a block is refusal 1.
   pub other_length : (length b ≡ 512 → ⊥) → found b ≡ found_of 1 0 0
-  other_length h = refused (λ z. omega (arith, z, demands.not_512 b h)) ∙ ap (λ (n : ℕ). found_of n 0 0) (sym numbered ∙ demands.not_512 b h)
+  other_length h = refusal_1 (demands.not_512 b h)
 
 -- So is no byte at all.
 pub no_bytes : found [] ≡ found_of 1 0 0
-no_bytes = other_length [] (λ e. omega (arith, e))
+no_bytes = refusal_1 [] (demands.not_512 [] (λ e. omega (arith, e)))

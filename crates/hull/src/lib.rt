@@ -13,7 +13,7 @@ use power::Bounds;
 
 // The two bounds as doubles, each a whole number of millionths.
 #[repr(C)]
-#[derive(Drop)]
+#[derive(Clone, Copy)]
 pub struct Pair {
     pub lower: f64,
     pub upper: f64,
@@ -21,7 +21,7 @@ pub struct Pair {
 
 // The refusal's number, 0 for none; the two bounds in millionths, both 0 with a refusal; and the same as doubles.
 #[repr(C)]
-#[derive(Drop)]
+#[derive(Clone, Copy)]
 pub struct Found {
     pub refusal: u8,
     pub lower: u64,
@@ -96,7 +96,7 @@ pub fn yagmurzol_doubles(block: &[u8]) -> Pair
 
 // A speed's two bounds, in millionths of a knot.
 #[repr(C)]
-#[derive(Drop)]
+#[derive(Clone, Copy)]
 pub struct Knots {
     pub lower: u64,
     pub upper: u64,
@@ -104,7 +104,7 @@ pub struct Knots {
 
 // The refusal's number, 0 for none; the speed's bounds of the most and of the least favourable ship, all 0 with a refusal.
 #[repr(C)]
-#[derive(Drop)]
+#[derive(Clone, Copy)]
 pub struct FoundSpeeds {
     pub refusal: u8,
     pub most: Knots,
