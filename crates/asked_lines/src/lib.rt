@@ -1,4 +1,6 @@
 // The lines of the programs: for each block its number and the desk's answer, about the index or about the speed.
+#![tactic(auto)]
+
 ghost use Rattle.std.specs.Prelude.{◌≡◌, ◌+◌, ◌-◌, ◌*◌, ◌≤◌, ◌<◌, ltb, length};
 ghost use Rattle.formula.specs.Words.{if};
 ghost use Rattle.fields.specs.Numbers.{number_at};
@@ -9,7 +11,7 @@ use desk::{Answer, SpeedAnswer};
 use line::{put_bounds, put_refusal, put_speeds};
 
 // What is asked of each block: `fleet` asks for the index, `speeds` for the speed.
-#[derive(Drop)]
+#[derive(Clone, Copy)]
 pub enum Asked {
     Index,
     Speed,
