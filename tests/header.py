@@ -6,7 +6,7 @@ import ast, os, re, sys
 
 ROOT = os.path.dirname(os.path.dirname(os.path.abspath(__file__)))
 CONSTANT = re.compile(r"YAGMURZOL_([A-Z_]+) = (\d+),?\s*/\*(.*?)\*/", re.S)
-NUMBER = re.compile(r"^number-of (\w+) = (\d+)$", re.M)
+NUMBER = re.compile(r"^number_of (\w+) = (\d+)$", re.M)
 ROW = re.compile(r"^\| (\d+) \| ([^|]*) \| (.*) \|$", re.M)
 TABLE = re.compile(r"^REFUSALS = (\{.*?^\})$", re.M | re.S)
 
@@ -39,7 +39,7 @@ def main():
     falsified = [
         (0, "YAGMURZOL_TRIAL = 15", "YAGMURZOL_SPEED = 15", ["the name of 15"]),
         (0, "deadweight not 100 to", "deadweight not 10 to", ["the words of 6"]),
-        (1, "number-of Edition = 19", "number-of Edition = 19\nnumber-of Manoeuvre = 20", ["the name of 20"]),
+        (1, "number_of Edition = 19", "number_of Edition = 19\nnumber_of Manoeuvre = 20", ["the name of 20"]),
         (2, "| 2 | check sums | the check sums", "| 2 | check sums | the sums", ["the command's words of 2", "the words of 2"]),
         (3, '"fuel consumption"', '"consumption"', ["the command's words of 10"]),
         (3, "m³", "m3", ["the command's words of 8"]),

@@ -7,7 +7,7 @@ import sys
 
 sys.dont_write_bytecode = True  # the generators leave no file but those they write
 
-from table import hold, match_proof
+from table import hold, match_answers
 
 ENTRIES = 1024
 STEP = 1073741824
@@ -36,9 +36,7 @@ def listed(rows):
     lines = [rows[at:at + 6] for at in range(0, len(rows), 6)]
     text = "\n    ∷ ".join(" ∷ ".join("four " + " ".join(map(str, row)) for row in line) for line in lines)
     return f"""-- The table of cube roots, as tests/roots.py makes it. Assumes nothing.
-use Prim.Native.Nat.{{ℕ, _+_, _*_, _/_, _%_, _^_}}
-use mathlib.Core.List.{{List, [], _∷_}}
-use lib.ListN.{{getD}}
+use Rattle.std.specs.Prelude.{{ℕ, ◌+◌, ◌*◌, ◌/◌, ◌%◌, ◌^◌, List, [], ◌∷◌, get_or}}
 
 -- Four entries of 16 bits, as one number.
 abbrev four : (a b c d : ℕ) → ℕ
@@ -50,8 +48,8 @@ rows =
     {text} ∷ []
 
 -- The entry of that number.
-unfoldable pub entry-of : ℕ → ℕ
-entry-of i = getD rows (i / 4) 0 / 2 ^ (16 * (i % 4)) % 2 ^ 16
+unfoldable pub entry_of : ℕ → ℕ
+entry_of i = get_or rows (i / 4) 0 / 2 ^ (16 * (i % 4)) % 2 ^ 16
 """
 
 
@@ -59,15 +57,13 @@ def function(words):
     arms = "".join(f"        {at} => {word},\n" for at, word in enumerate(words[:-1]))
     return f"""// The table of cube roots, as tests/roots.py makes it, four entries to a number. A `match` is compiled to a table in memory that is only read; an
 // array would be laid on the stack at each call.
-ghost use mathlib.Core.Path.{{_≡_}};
-ghost use Prim.Native.Nat.{{_<_}};
-ghost use lib.ListN.{{getD}};
-ghost use Rattle·root_table·specs.specs.Table.{{rows}};
+ghost use Rattle.std.specs.Prelude.{{◌≡◌, ◌<◌, get_or}};
+ghost use Rattle.root_table.specs.Table.{{rows}};
 
 // The entries 4 i to 4 i + 3, of 16 bits each, the first one lowest.
 pub(crate) fn row(i: u64) -> u64
-    requires {{ ⌜ i < {len(words)} ⌝ }}
-    ensures {{ λ r. ⌜ r ≡ getD rows i 0 ⌝ }}
+    requires {{ i < {len(words)} }}
+    ensures {{ result ≡ get_or rows i 0 }}
 {{
     match i {{
 {arms}        _ => {words[-1]},
@@ -82,5 +78,6 @@ if __name__ == "__main__":
     hold(ROOM, {
         "specs/Table.antt": listed(table),
         "src/table.rt": function(words),
-        "proofs/table/row/Proof.antt": match_proof("root_table", "row", "rows", len(words)),
+        "proofs/table/row/Answers.antt": match_answers(
+            "root_table", "row", "rows", len(words), ("", ""), f"\n    arm c.args.i {len(words) - 1} (omega arith)"),
     })

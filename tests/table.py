@@ -39,8 +39,7 @@ def lines(entries, separator, width=5):
 def listed(parts):
     """The three parts as lists."""
     text = """-- The table of powers of 2, as tests/table.py makes it. Assumes nothing.
-use Prim.Native.Nat.{ℕ}
-use mathlib.Core.List.{List, [], _∷_}
+use Rattle.std.specs.Prelude.{ℕ, List, [], ◌∷◌}
 """
     for name, k, entries in parts:
         text += f"""
@@ -55,18 +54,16 @@ unfoldable pub {name}s : List ℕ
 def functions(parts):
     text = """// The table of powers of 2, as tests/table.py makes it. A `match` is compiled to a table in memory that is only read; an array would be laid
 // on the stack at each call.
-ghost use mathlib.Core.Path.{_≡_};
-ghost use Prim.Native.Nat.{_<_};
-ghost use lib.ListN.{getD};
+ghost use Rattle.std.specs.Prelude.{◌≡◌, ◌<◌, get_or};
 """
-    text += f"ghost use Rattle·power·specs.specs.Table.{{{', '.join(name + 's' for name, _, _ in parts)}}};\n"
+    text += f"ghost use Rattle.power.specs.Table.{{{', '.join(name + 's' for name, _, _ in parts)}}};\n"
     for name, k, entries in parts:
         arms = "".join(f"        {at} => {entry},\n" for at, entry in enumerate(entries[:-1]))
         text += f"""
 // 2^(i/{2 ** k}), in units of 2^-63.
 pub(crate) fn {name}(i: u64) -> u64
-    requires {{ ⌜ i < {len(entries)} ⌝ }}
-    ensures {{ λ r. ⌜ r ≡ getD {name}s i 0 ⌝ }}
+    requires {{ i < {len(entries)} }}
+    ensures {{ result ≡ get_or {name}s i 0 }}
 {{
     match i {{
 {arms}        _ => {entries[-1]},
@@ -76,30 +73,28 @@ pub(crate) fn {name}(i: u64) -> u64
     return text
 
 
-def match_proof(room, name, listed, count):
-    """The proof of a match over a table, an arm for an entry."""
-    last = count - 1
-    arms = " ".join(f"(λ c. arm (c .before .args .i) {at} (c .match .keys{at + 1}))" for at in range(last))
+def match_answers(room, name, listed, count, uses, rest):
+    """The answers of a match over a table, an arm for an entry; of the last that its number is no other."""
+    answers = "".join(f"""
+pub returns-in-{at} : goal.returns-in-{at}
+unfolding {listed}
+returns-in-{at} c = arm c.args.i {at} c.in-{at}.is
+""" for at in range(count - 1))
+    before, after = uses
     return f"""-- `{room}::table::{name}` meets its contract: each arm has the entry at its own place, and the last is left for the last. Assumes nothing.
-use mathlib.Core.Path.{{_≡_}}
+{before}use mathlib.Core.Path.{{◌≡◌}}
 use Prim.Native.Nat.{{ℕ}}
 use native.Mathlib.Omega.{{arith}}
-use lib.ListN.{{getD}}
-use Rattle·formula.proofs.Tables.{{past}}
-use Rattle·{room}·specs.specs.Table.{{{listed}}}
-use Rattle·{room}·proofs.proofs.table.{name}.Statement.{{statement}}
-use Rattle·{room}·proofs.proofs.table.{name}.Tie as tie
+use lib.ListN.{{get_or}}
+{after}use Rattle.{room}.specs.Table.{{{listed}}}
+use Rattle.{room}.proofs.table.{name}.Goals as goal
 
-arm : (i k : ℕ) → i ≡ k → getD {listed} k 0 ≡ getD {listed} i 0
+arm : (i k : ℕ) → i ≡ k → get_or {listed} k 0 ≡ get_or {listed} i 0
 arm i k e = rw e
-
-pub {name}-spec : {{M : Type 1}} → statement M
+{answers}
+pub returns-in_default : goal.returns-in_default
 unfolding {listed}
-{name}-spec =
-    tie.close
-    (tie.spec
-    {arms}
-    (λ c. arm (c .before .args .i) {last} (omega (arith, past (c .before .args .i) {last} (c .match .rest), c .before .pre))))
+returns-in_default c ={rest}
 """
 
 
@@ -119,5 +114,8 @@ if __name__ == "__main__":
     parts = [(name, k, part(k, count)) for name, k, count in PARTS]
     files = {"specs/Table.antt": listed(parts), "src/table.rt": functions(parts)}
     for name, _, entries in parts:
-        files[f"proofs/table/{name}/Proof.antt"] = match_proof("power", name, f"{name}s", len(entries))
+        last = len(entries) - 1
+        files[f"proofs/table/{name}/Answers.antt"] = match_answers(
+            "power", name, f"{name}s", len(entries), ("use borrow.Author.Rules.{rules}\n", "use Rattle.formula.proofs.Tables.{past}\n"),
+            f" arm c.args.i {last} (omega (arith, past c.args.i {last} (search rules), c.requires))")
     hold(ROOM, files)
