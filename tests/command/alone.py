@@ -88,7 +88,7 @@ def reader_goes(place, name):
         ran = run(program, data, out=Leaving(lines))
         yield f"{name}, the reader goes after {lines} lines", faults(ran, right, b"", 128 + signal.SIGPIPE)
         ran = run(program, data, out=Leaving(lines), before=(ignoring(signal.SIGPIPE),))
-        yield f"{name}, the reader goes after {lines} lines, signal ignored", faults(ran, right)
+        yield f"{name}, the reader goes after {lines} lines, signal ignored", faults(ran, right, b"", 128 + signal.SIGPIPE)
 
 
 def most_blocks(place, name):

@@ -7,6 +7,7 @@ ghost use Rattle.lines.specs.Lines.{lines_of};
 ghost use Rattle.fleet.specs.Batches.{first_batch, batch_after, batch_if, Begun, Follows};
 
 use std::io::Print;
+use std::process::ExitCode;
 use streams::{Got, Sent};
 
 // The batch of up to 128 blocks that begins with block `first`; `more` is whether there is one.
@@ -64,7 +65,8 @@ fn go_on(next: Batch, sent: Sent) -> Batch
 }
 
 // Reads a batch, writes its lines in one write and says what failed; answers what comes after it, which is nothing where a side failed.
-fn next(rt: HostRuntime, batch: Batch) -> Batch
+// Whether that is because nobody reads the lines any more stands in `unread`.
+fn next(rt: HostRuntime, batch: Batch, unread: &mut bool) -> Batch
     requires { Begun batch }
     ensures { Follows batch result }
 {
@@ -77,13 +79,20 @@ fn next(rt: HostRuntime, batch: Batch) -> Batch
     let mut complaint = [0u8; 36];
     let said = streams::put_complaint(&mut complaint, b"fleet", got, sent);
     let _told = rt.stderr().write_all(&complaint[..said]);
+    *unread = sent.closed;
     go_on(step.next, sent)
 }
 
-// 512 batches at most, so that no byte beyond 65,536 blocks is asked for.
-fn main(rt: HostRuntime) {
+// 512 batches at most, so that no byte beyond 65,536 blocks is asked for. Where nobody reads the lines any more the status is what a shell
+// tells of a program that the signal of a closed pipe has ended.
+fn main(rt: HostRuntime) -> ExitCode {
     let mut batch = start();
+    let mut unread = false;
     while batch.more {
-        batch = next(rt, batch);
+        batch = next(rt, batch, &mut unread);
     }
+    if unread {
+        return ExitCode::from(141);
+    }
+    ExitCode::SUCCESS
 }

@@ -49,7 +49,8 @@ fn put_said(out: &mut [u8], asked: Asked, got: Got, sent: Sent) -> usize
 }
 
 // Reads a batch, writes its lines in one write and says what failed; answers what comes after it, which is nothing where a side failed.
-fn next(rt: HostRuntime, batch: Batch, asked: Asked) -> Batch
+// Whether that is because nobody reads the lines any more stands in `unread`.
+fn next(rt: HostRuntime, batch: Batch, asked: Asked, unread: &mut bool) -> Batch
     requires { Begun batch }
     ensures { Follows batch result }
 {
@@ -62,17 +63,18 @@ fn next(rt: HostRuntime, batch: Batch, asked: Asked) -> Batch
     let mut said = [0u8; 37];
     let words = put_said(&mut said, asked, got, sent);
     let _said = rt.stderr().write_all(&said[..words]);
+    *unread = sent.closed;
     batches::go_on(step.next, sent.all)
 }
 
 // All of a program. Answers with which block the batch after the last would begin: 512 batches at most, so that no byte beyond 65,536
-// blocks is asked for.
-pub fn run(rt: HostRuntime, asked: Asked) -> u32
+// blocks is asked for. Whether it ended because nobody reads its lines any more stands in `unread`.
+pub fn run(rt: HostRuntime, asked: Asked, unread: &mut bool) -> u32
     ensures { Ended result }
 {
     let mut batch = batches::start();
     while batch.more {
-        batch = next(rt, batch, asked);
+        batch = next(rt, batch, asked, unread);
     }
     batch.first
 }

@@ -2,7 +2,14 @@
 #![tactic(auto)]
 
 use asked_lines::Asked;
+use std::process::ExitCode;
 
-fn main(rt: HostRuntime) {
-    program::run(rt, Asked::Speed);
+// Where nobody reads the lines any more the status is what a shell tells of a program that the signal of a closed pipe has ended.
+fn main(rt: HostRuntime) -> ExitCode {
+    let mut unread = false;
+    program::run(rt, Asked::Speed, &mut unread);
+    if unread {
+        return ExitCode::from(141);
+    }
+    ExitCode::SUCCESS
 }
