@@ -2,6 +2,7 @@
 -- Assumes nothing.
 use Prim.Native.Nat.{ℕ, ◌+◌, ◌*◌, ◌/◌, ◌-◌, ◌≤◌, ◌<◌}
 use mathlib.Core.Path.{◌≡◌, sym, ◌∙◌}
+use mathlib.Core.Bool.{true}
 use mathlib.Core.List.{List, [], ◌∷◌, append_assoc}
 use native.Mathlib.Omega.{arith}
 use borrow.Author.Tests.{eq-eqb, ne_eqb, lt-ltb, le-ltb}
@@ -12,13 +13,18 @@ use Rattle.ship.specs.Refusals.{number_of, first_of}
 use Rattle.ship.specs.Rules.{refusal_of}
 use Rattle.ship.specs.declared.Ship.{Ship}
 use Rattle.ship.specs.declared.Refusal.{Refusal}
-use Rattle.ship.specs.declared.Refusal.TheVariants.{None, Length, NoBlock}
+use Rattle.ship.specs.declared.Refusal.TheVariants.{None, Length, Check, NoBlock}
 use Rattle.ship.proofs.Order.{or_else}
 use Rattle.ship.proofs.Right.{after_own}
 use Rattle.layout.specs.Layout.{encode, ship_in, empty_ship}
-use Rattle.block.specs.Answers.{block_tests, read_refusal, loaded, read_of, no_block, write_refusal, write_of}
+use Rattle.block.specs.Answers.{check_refused, block_tests, read_refusal, loaded, read_of, no_block, write_refusal, write_of}
 
 -- ── Reading ─────────────────────────────────────────────────────────────────────────────────
+
+-- Of 512 bytes the checks come first: where one differs, no other rule is named.
+pub check_first : (b : List ℕ) (s : Ship) → check_refused b ≡ true → first_of (block_tests b s) None ≡ Check
+unfolding first_of block_tests
+check_first b s h = rw h
 
 pub read_short : (b : List ℕ) → (length b ≡ 512 → ⊥) → loaded Length empty_ship ≡ read_of b
 unfolding read_of read_refusal first_of

@@ -48,6 +48,18 @@ quotient {s} volume q w qpos wpos root p b h = by_quotient (by_product (by_lit (
 
 -- Where 1/Fn is limited to 5/3 the rule's own limit bounds Fn, and else the quotient; from below both do.
 module _ {e : Formula} (h : Hull) where
+  fn_below : (r w v : ℕ) → 0 < w → limited r < 36 * 2 ^ 26 → Ceil (w * (225899 * 750) * 1250 ^ 2) (v * (72124 * 643)) r → BoundsPower above w unit h.volume 1 1 6 → bounds below e (v // 1000000)
+      → bounds below (Fn e h) ((15 * 2 ^ 26) // limited r)
+  unfolding Fn
+  fn_below r w v wpos less f p b =
+      let pos : 0 < limited r = omega arith in
+      let from : 25 * 2 ^ 26 ≤ limited r = omega arith in
+      let x : w * (225899 * 750) * 1250 ^ 2 ≤ limited r * (v * (72124 * 643)) = le_trans f.at_least (mul-le-mul_right (v * (72124 * 643)) (omega arith)) in
+      let c : 981 // 100 ≼ 225899 // 72124 · 225899 // 72124 = omega arith in
+      let g : (15 * 2 ^ 26) // limited r · (225899 // 72124 · w // unit) ≼ 5144 // 10000 · v // 1000000 = record { cross = rw (suc-pred-eq_of_pos pos) (omega arith) } in
+      let d : (15 * 2 ^ 26) // limited r ≼ 6 // 10 = record { cross = rw (suc-pred-eq_of_pos pos) (omega arith) } in
+      smaller_both (quotient h.volume (225899 // 72124) w (lit< tt) wpos (at_least c) p b (at_most g)) (by_lit (at_most d))
+
   fn_above : (q w v : ℕ) → 0 < w → Floor (w * (78888 * 750) * 1250 ^ 2) (v * (25187 * 643)) q → BoundsPower below w unit h.volume 1 1 6 → bounds above e (v // 1000000)
       → bounds above (Fn e h) ((15 * 2 ^ 26) // limited q)
   unfolding Fn
@@ -64,18 +76,6 @@ module _ {e : Formula} (h : Hull) where
           let c : 78888 // 25187 · 78888 // 25187 ≼ 981 // 100 = omega arith in
           let g : 5144 // 10000 · v // 1000000 ≼ (15 * 2 ^ 26) // limited q · (78888 // 25187 · w // unit) = record { cross = rw (suc-pred-eq_of_pos pos) (omega arith) } in
           quotient h.volume (78888 // 25187) w (lit< tt) wpos (at_most c) p b (at_least g)
-
-  fn_below : (r w v : ℕ) → 0 < w → limited r < 36 * 2 ^ 26 → Ceil (w * (225899 * 750) * 1250 ^ 2) (v * (72124 * 643)) r → BoundsPower above w unit h.volume 1 1 6 → bounds below e (v // 1000000)
-      → bounds below (Fn e h) ((15 * 2 ^ 26) // limited r)
-  unfolding Fn
-  fn_below r w v wpos less f p b =
-      let pos : 0 < limited r = omega arith in
-      let from : 25 * 2 ^ 26 ≤ limited r = omega arith in
-      let x : w * (225899 * 750) * 1250 ^ 2 ≤ limited r * (v * (72124 * 643)) = le_trans f.at_least (mul-le-mul_right (v * (72124 * 643)) (omega arith)) in
-      let c : 981 // 100 ≼ 225899 // 72124 · 225899 // 72124 = omega arith in
-      let g : (15 * 2 ^ 26) // limited r · (225899 // 72124 · w // unit) ≼ 5144 // 10000 · v // 1000000 = record { cross = rw (suc-pred-eq_of_pos pos) (omega arith) } in
-      let d : (15 * 2 ^ 26) // limited r ≼ 6 // 10 = record { cross = rw (suc-pred-eq_of_pos pos) (omega arith) } in
-      smaller_both (quotient h.volume (225899 // 72124) w (lit< tt) wpos (at_least c) p b (at_most g)) (by_lit (at_most d))
 
 -- ── 1/Fn of a ship ──────────────────────────────────────────────────────────────────────────
 

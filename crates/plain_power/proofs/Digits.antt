@@ -204,5 +204,5 @@ raised x d ready h =
 -- After all digits.
 pub roots_near : (hi lo : ℕ) → unit ≤ lo → Close ((2 ^ 30) ^ 5) ((2 ^ 30 + 1) ^ 5) hi lo (2 ^ digits) → hi * 2 ^ 27 ≤ lo * (2 ^ 27 + 1)
 roots_near hi lo low near =
-    close_end ((2 ^ 30) ^ 5) ((2 ^ 30 + 1) ^ 5) hi lo (2 ^ 30) 32 (2 ^ digits) (2 ^ 27) (2 ^ 27 + 1) (lit≤ tt) (lit≤ tt) refl (lit≤ tt) (lit≤ tt)
+    close_end ((2 ^ 30) ^ 5) ((2 ^ 30 + 1) ^ 5) hi lo (2 ^ 29) (2 ^ (digits - 29)) (2 ^ digits) (2 ^ 27) (2 ^ 27 + 1) (lit≤ tt) (lit≤ tt) refl (lit≤ tt) (lit≤ tt)
     (mul-pos (omega arith) (lit≤ tt)) (lit≤ tt) near

@@ -3,7 +3,7 @@
 use Prim.Native.Nat.{ℕ, zero, suc, ◌+◌, ◌*◌, ◌≤◌, ◌<◌}
 use mathlib.Core.Path.{◌≡◌, refl, sym, ap, ◌∙◌}
 use mathlib.Core.Bool.{Bool, true, false, ◌&&◌, ◌||◌, not}
-use mathlib.Core.List.{List, ◌++◌}
+use mathlib.Core.List.{List, [], ◌∷◌, ◌++◌, map}
 use native.Mathlib.Omega.{arith}
 use borrow.Author.Tests.{ltb-false, lt-ltb, eq-eqb, ne_eqb, eqb-true, eqb-false, le-leb, not-false}
 use lib.Dec.{eqb, ltb, leb, eqb-suc-zero}
@@ -11,7 +11,7 @@ use lib.ListN.{get_or, length}
 use Rattle.exact.specs.Index.{Capacity, sum_P_ME}
 use Rattle.exact.specs.Ranges.{engines_at, low}
 use Rattle.ship.specs.Record.{no_engine, no_crane, record_with}
-use Rattle.ship.specs.Refusals.{first_of}
+use Rattle.ship.specs.Refusals.{number_of, first_of}
 use Rattle.ship.specs.Figures.{kinds, kind_of, Listed, last_ice, last_edition, Fuelled, deadweight_of, hull_of, crane_of, mains}
 use Rattle.ship.specs.Rules.{outside, between, nonzero, any_used, any_below, layout_refused, imo_refused, type_refused, deadweight_refused, gross_refused, volume_refused, engines_refused}
 use Rattle.ship.specs.Rules.{uses_refused, consumption_refused, auxiliary_refused, ice_refused, speed_refused, crossed, range_refused, engine_crossed}
@@ -31,6 +31,14 @@ use Rattle.ship.specs.declared.Refusal.{Refusal}
 use Rattle.ship.specs.declared.Refusal.TheVariants as refusal
 use Rattle.ship.proofs.Order.{passed, own_none, or_else, two_stages}
 use Rattle.ship.proofs.Tests.{or_true, neither, not_with, inside, is_zero, none_below, each_used, each_unused, engines_inside, Sized, engine_inside}
+
+-- ── The order of the rules ──────────────────────────────────────────────────────────────────
+
+-- By the numbers of their refusals, as docs/RULES.md has them.
+pub in_order : (zeros : Bool) (s : Ship)
+    → map (λ (t : Bool × Refusal). number_of t.1) (tests zeros s) ≡ 3 ∷ 4 ∷ 5 ∷ 6 ∷ 7 ∷ 8 ∷ 9 ∷ 10 ∷ 11 ∷ 12 ∷ 13 ∷ 14 ∷ 15 ∷ 16 ∷ 18 ∷ 19 ∷ []
+unfolding hull_tests plant_tests trial_tests
+in_order zeros s = refl
 
 -- ── What a record has passed, row by row ────────────────────────────────────────────────────
 

@@ -9,18 +9,18 @@ use Rattle.block.proofs.Answering.{write_refused, write_no_block, write_accepted
 use Rattle.block.proofs.write.Goals as goal
 use Rattle.block.proofs.write.Goals.{Else-number-ne0}
 
--- The record has no refusal of its own.
-own_none : (c : Else-number-ne0) → refusal_of c.args.ship ≡ None
-own_none c =
-    let e = c.refusal-own.ensures in
-    sym e ∙ none _ (sym c.number.ensures ∙ c.if-number-ne0.false)
-
 pub returns-then-number-ne0 : goal.returns-then-number-ne0
 returns-then-number-ne0 c =
     let e = c.refusal-own.ensures in
     let a = c.args in
     let w = write_refused a.file.now a.number a.ship (λ z. c.if-number-ne0.true (c.number.ensures ∙ ap number_of e ∙ z)) in
     record { value = e ∙ w.0; file_after = w.1 }
+
+-- The record has no refusal of its own.
+own_none : (c : Else-number-ne0) → refusal_of c.args.ship ≡ None
+own_none c =
+    let e = c.refusal-own.ensures in
+    sym e ∙ none _ (sym c.number.ensures ∙ c.if-number-ne0.false)
 
 pub returns-then-file-n : goal.returns-then-file-n
 returns-then-file-n c =

@@ -18,6 +18,14 @@ reached c = let g = c.requires.1 c.loop-i.i (omega arith) in mul-le-mul g.swl.mo
 pub loop-i-init : goal.loop-i-init
 loop-i-init c = (omega arith, omega arith, omega arith, omega (arith, lifted_none c.args.gear))
 
+pub loop-i-preserved : goal.loop-i-preserved
+loop-i-preserved c =
+    let l = c in
+    let gear = l.args.gear in
+    let eight : length gear ≡ 8 = search rules in
+    let r = reached (goal.at.loop-i-preserved c).In-loop-i in
+    (omega arith, omega arith, omega arith, omega (arith, lifted_step gear l.loop-i.i (omega arith)))
+
 pub overflow_mul-sum : goal.overflow_mul-sum
 overflow_mul-sum c =
     omega (arith, reached (goal.at.overflow_mul-sum c).In-loop-i)
@@ -29,14 +37,6 @@ overflow_mul-sum-in-loop-i c =
 pub overflow_add-sum : goal.overflow_add-sum
 overflow_add-sum c =
     omega (arith, reached (goal.at.overflow_add-sum c).In-loop-i)
-
-pub loop-i-preserved : goal.loop-i-preserved
-loop-i-preserved c =
-    let l = c in
-    let gear = l.args.gear in
-    let eight : length gear ≡ 8 = search rules in
-    let r = reached (goal.at.loop-i-preserved c).In-loop-i in
-    (omega arith, omega arith, omega arith, omega (arith, lifted_step gear l.loop-i.i (omega arith)))
 
 pub returns : goal.returns
 returns c =

@@ -12,6 +12,21 @@ use Rattle.index.proofs.Records.{own_speed, own_hull, main_small, lower_sized, u
 use Rattle.index.proofs.attained.Goals as goal
 use Rattle.index.proofs.attained.Goals.{After-main_engines-main}
 
+pub returns : goal.returns
+unfolding index_of figures
+returns c =
+    let m = c in
+    let e = m in
+    let f = e in
+    let s = f in
+    let length = four s.args.s _ s.well_formed.0 in
+    rw (
+      c.between.ensures.lower_value ∙ lower_named s.args.s length s.requires.0 s.requires.1 f.factor-c.ensures e.load-load.ensures e.emissions-n.ensures
+          m.main_engines-main.ensures.low_value m.main_engines-main.ensures.high_value,
+      c.between.ensures.upper_value ∙ upper_named s.args.s length s.requires.0 s.requires.1 f.factor-c.ensures e.load-load.ensures e.emissions-n.ensures
+          m.main_engines-main.ensures.low_value m.main_engines-main.ensures.high_value,
+    )
+
 -- What the two roundings ask.
 lower_asked : (c : After-main_engines-main) → let e = c in let f = e in
     Sized (c.main_engines-main.result.low + e.emissions-n.result.auxiliary.low) e.load-load.result f.args.v.most.hi f.factor-c.result.hi
@@ -57,18 +72,3 @@ pub between-requires : goal.between-requires
 between-requires c =
     let m = c in
     (lower_asked (goal.at.between-requires c).After-main_engines-main, upper_asked (goal.at.between-requires c).After-main_engines-main)
-
-pub returns : goal.returns
-unfolding index_of figures
-returns c =
-    let m = c in
-    let e = m in
-    let f = e in
-    let s = f in
-    let length = four s.args.s _ s.well_formed.0 in
-    rw (
-      c.between.ensures.lower_value ∙ lower_named s.args.s length s.requires.0 s.requires.1 f.factor-c.ensures e.load-load.ensures e.emissions-n.ensures
-          m.main_engines-main.ensures.low_value m.main_engines-main.ensures.high_value,
-      c.between.ensures.upper_value ∙ upper_named s.args.s length s.requires.0 s.requires.1 f.factor-c.ensures e.load-load.ensures e.emissions-n.ensures
-          m.main_engines-main.ensures.low_value m.main_engines-main.ensures.high_value,
-    )

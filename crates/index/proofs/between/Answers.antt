@@ -6,6 +6,9 @@ use Rattle.ship.proofs.Order.{both}
 use Rattle.index.specs.Attained.{index_up}
 use Rattle.index.proofs.between.Goals as goal
 
+pub returns : goal.returns
+returns c = record { lower_value = c.both-low.ensures.lower_value; upper_value = c.both-high.ensures.upper_value }
+
 -- The same figures have the same bound.
 same : (load : ℕ) {n n' v v' c c' : ℕ} → n ≡ n' → v ≡ v' → c' ≡ c → index_up n load v c ≡ index_up n' load v' c'
 same load e f g = rw (e, f, g)

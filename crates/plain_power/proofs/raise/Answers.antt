@@ -14,12 +14,6 @@ pub factor-y-requires : goal.factor-y-requires
 factor-y-requires c =
     tt
 
-pub means-p-requires : goal.means-p-requires
-means-p-requires c =
-    let s = c.loop-left in
-    let norms = lowest_factor _ s.rest c.requires in
-    ((s.invariant.0 below, s.invariant.0 above), rw c.factor-y.ensures (norms.norm below, norms.norm above))
-
 pub loop-left-preserved : goal.loop-left-preserved
 loop-left-preserved c =
     let s = c.loop-left in
@@ -29,6 +23,12 @@ loop-left-preserved c =
     let next : c.means-p.result ≡ means_of s.p c.factor-y.result = c.means-p.ensures in
     let norms = lowest_factor x s.rest start.requires in
     rw (next, digit) ((means_are s.invariant.0 norms.norm).norm, raise_next x s.p s.rest s.left (omega arith) ∙ s.invariant.1)
+
+pub means-p-requires : goal.means-p-requires
+means-p-requires c =
+    let s = c.loop-left in
+    let norms = lowest_factor _ s.rest c.requires in
+    ((s.invariant.0 below, s.invariant.0 above), rw c.factor-y.ensures (norms.norm below, norms.norm above))
 
 pub returns : goal.returns
 returns c =

@@ -7,11 +7,11 @@ use Rattle.formula.proofs.Wholes.{cube}
 use Rattle.root.proofs.Roots.{square_fits, cube_fits}
 use Rattle.root.proofs.cube_at_most.Goals as goal
 
-pub overflow_mul-result : goal.overflow_mul-result
-overflow_mul-result c = record { fits = square_fits c.if-small.true }
-
 pub overflow_mul-result-then-small : goal.overflow_mul-result-then-small
 overflow_mul-result-then-small c = record { fits = cube_fits c.if-small.true }
+
+pub overflow_mul-result : goal.overflow_mul-result
+overflow_mul-result c = record { fits = square_fits c.if-small.true }
 
 pub returns-then-small : goal.returns-then-small
 returns-then-small c = rw (cube c.args.t)

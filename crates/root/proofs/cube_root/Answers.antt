@@ -6,6 +6,9 @@ use lib.Dec.{lit≤}
 use Rattle.root.proofs.Roots.{upper_half, lower_half, root_stands, root_below}
 use Rattle.root.proofs.cube_root.Goals as goal
 
+pub returns : goal.returns
+returns c = root_stands c.loop-w.invariant c.loop-w-test.false
+
 pub loop-w-init : goal.loop-w-init
 loop-w-init c = omega arith
 
@@ -33,6 +36,3 @@ loop-w-smaller c = omega arith
 pub loop-w-preserved : goal.loop-w-preserved
 loop-w-preserved c =
     lower_half c.loop-w.invariant c.loop-w-test.true (sym c.cube_at_most.ensures ∙ c.if-cube_at_most.false)
-
-pub returns : goal.returns
-returns c = root_stands c.loop-w.invariant c.loop-w-test.false

@@ -9,6 +9,15 @@ use Rattle.statistical.proofs.Statistics.{Averaged, averaged, kept, over_raisabl
 use Rattle.statistical.proofs.statistical.Goals as goal
 use Rattle.statistical.proofs.statistical.Goals.{After-average-v}
 
+pub returns : goal.returns
+unfolding statistical_of
+returns c =
+    let size = c in
+    let low = size in
+    let row = low.row_of-row.ensures in
+    rw (c.speed_from.ensures, low.less_margin.ensures, size.less_margin-2.ensures, low.average-v.ensures, c.power-over.ensures)
+    (rw (size.size-e.ensures, row.f_is, row.d_is))
+
 average_is : (c : After-average-v) → Averaged (kind_of c.args.kind) (deadweight_of c.args.deadweight) c.average-v.result
 average_is c = rw c.average-v.ensures (averaged _ _ c.requires.1)
 
@@ -50,12 +59,3 @@ speed_from-requires c =
     rw (low.less_margin.ensures, size.less_margin-2.ensures, low.average-v.ensures, c.power-over.ensures, size.size-e.ensures)
     (rw (row.row_of-row.ensures.f_is, row.row_of-row.ensures.d_is)
     (statistical_parted kind dwt s.args.power s.requires.1 s.requires.2, statistical_moderate kind dwt s.args.power s.requires.1 s.requires.2))
-
-pub returns : goal.returns
-unfolding statistical_of
-returns c =
-    let size = c in
-    let low = size in
-    let row = low.row_of-row.ensures in
-    rw (c.speed_from.ensures, low.less_margin.ensures, size.less_margin-2.ensures, low.average-v.ensures, c.power-over.ensures)
-    (rw (size.size-e.ensures, row.f_is, row.d_is))

@@ -11,6 +11,18 @@ use Rattle.number.proofs.Ratios.{ratio_root_exact, ratio_root_between}
 use Rattle.number.proofs.ratio.cube_root_in_units.Goals as goal
 use Rattle.number.proofs.ratio.cube_root_in_units.Goals.{After-rounded_up-above}
 
+pub returns-then-low-above : goal.returns-then-low-above
+returns-then-low-above c =
+    let at = c in
+    ratio_root_exact (floor_divided at.divide_scaled-q.ensures) (c.rounded_up-above.ensures _ _ at.divide_scaled-q.ensures) c.cube_root-low.ensures
+    (zero-lt-suc 2) at.requires.some (cube _ ∙ c.if-low-above.true)
+
+pub returns-else-low-above : goal.returns-else-low-above
+returns-else-low-above c =
+    let at = c in
+    ratio_root_between (floor_divided at.divide_scaled-q.ensures) (c.rounded_up-above.ensures _ _ at.divide_scaled-q.ensures) c.cube_root-low.ensures
+    (λ e. c.if-low-above.false (sym (cube _) ∙ e))
+
 small : (c : After-rounded_up-above) → c.cube_root-low.result ≤ 2642245
 small c =
     let at = c in
@@ -27,15 +39,3 @@ overflow_mul-low-2 c = record { fits = cube_fits (small c) }
 
 pub overflow_add-high : goal.overflow_add-high
 overflow_add-high c = omega (arith, small (goal.at.overflow_add-high c).After-rounded_up-above)
-
-pub returns-then-low-above : goal.returns-then-low-above
-returns-then-low-above c =
-    let at = c in
-    ratio_root_exact (floor_divided at.divide_scaled-q.ensures) (c.rounded_up-above.ensures _ _ at.divide_scaled-q.ensures) c.cube_root-low.ensures
-    (zero-lt-suc 2) at.requires.some (cube _ ∙ c.if-low-above.true)
-
-pub returns-else-low-above : goal.returns-else-low-above
-returns-else-low-above c =
-    let at = c in
-    ratio_root_between (floor_divided at.divide_scaled-q.ensures) (c.rounded_up-above.ensures _ _ at.divide_scaled-q.ensures) c.cube_root-low.ensures
-    (λ e. c.if-low-above.false (sym (cube _) ∙ e))
