@@ -3,7 +3,7 @@
 
 ghost use Rattle.std.specs.Prelude.{◌≡◌};
 ghost use Rattle.ship.specs.Rules.{refusal_of};
-ghost use Rattle.desk.specs.Answers.{answer_of, answer_of_block};
+ghost use Rattle.desk.specs.Answers.{answer_by, answer_of, answer_of_block};
 ghost use Rattle.block.specs.Answers.{read_refusal, read_of};
 ghost use Rattle.desk.specs.Steps.{no_speeds, same, speeds_answer, speeds_answer_of_block, index_answer, index_answer_of_block};
 ghost use Rattle.desk.specs.Worked.{speed_alone, foreign, nothing, worked_by, answer_found, speeds_found};
@@ -148,11 +148,19 @@ fn told(w: Worked) -> Answer
     if ship::number(refusal) != 0 {
         return Answer::Refused(refusal);
     }
-    let index = Index {
+    let i = Index {
         lower: w.lower,
         upper: w.upper,
     };
-    Answer::Bounds(index)
+    Answer::Bounds(i)
+}
+
+// The answer where the first refusal of a record is `own`.
+fn answered(own: Refusal, s: Ship) -> Answer
+    requires { own ≡ Refusal.None → refusal_of s ≡ Refusal.None }
+    ensures { result ≡ answer_by own s }
+{
+    told(work(own, s, Step::Whole, no_speeds()))
 }
 
 fn told_speed(w: Worked) -> SpeedAnswer
@@ -172,14 +180,18 @@ fn told_speed(w: Worked) -> SpeedAnswer
 pub fn bounds(s: Ship) -> Answer
     ensures { result ≡ answer_of s }
 {
-    told(of_record(s, Step::Whole, no_speeds()))
+    let own = rules::refusal(s);
+    answered(own, s)
 }
 
 // The answer for a block, or for any other slice of bytes.
 pub fn bounds_of_block(block: &[u8]) -> Answer
     ensures { result ≡ answer_of_block block.now }
 {
-    told(of_block(block, Step::Whole, no_speeds()))
+    let loaded = block::read(block);
+    let own = loaded.refusal;
+    let s = loaded.ship;
+    answered(own, s)
 }
 
 // The first of two steps, the speed by itself: of a record.

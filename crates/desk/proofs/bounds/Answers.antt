@@ -1,15 +1,12 @@
 -- `desk::bounds` meets its contract.
 -- Assumes nothing.
-use mathlib.Core.Path.{refl, ap, ◌∙◌}
-use Rattle.ship.specs.Rules.{refusal_of}
-use Rattle.desk.specs.Worked.{answer_found}
-use Rattle.desk.specs.declared.Step.TheVariants.{Whole}
-use Rattle.desk.specs.Answers.{answer_of}
-use Rattle.desk.proofs.Working.{answer_worked}
+use mathlib.Core.Path.{sym, ap, ◌∙◌}
+use Rattle.desk.specs.Answers.{answer_by, answer_of}
 use Rattle.desk.proofs.bounds.Goals as goal
+
+pub answered-requires : goal.answered-requires
+answered-requires c e = sym c.refusal-own.ensures ∙ e
 
 pub returns : goal.returns
 unfolding answer_of
-returns c =
-    let a = c.args in
-    c.told.ensures ∙ ap answer_found c.of_record.ensures ∙ answer_worked Whole (refusal_of a.s) a.s c.no_speeds.result refl
+returns c = c.answered.ensures ∙ ap (λ r. answer_by r c.args.s) c.refusal-own.ensures
