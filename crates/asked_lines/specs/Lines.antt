@@ -1,4 +1,4 @@
--- The programs' lines. A line depends only on what is asked, its number and that block's bytes.
+-- The lines of either question. A line depends only on what is asked, its number and that block's bytes.
 -- Assumes nothing.
 use Rattle.std.specs.Prelude.{ℕ, zero, suc, ◌+◌, ◌*◌, ◌/◌, List, [], ◌++◌, leb, length, take, drop}
 use Rattle.formula.specs.Words.{if}

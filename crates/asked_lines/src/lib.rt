@@ -1,4 +1,4 @@
-// The lines of the programs: for each block its number and the desk's answer, about the index or about the speed.
+// The lines of either question: for each block its number and the desk's answer, about the index or about the speed.
 #![tactic(auto)]
 
 ghost use Rattle.std.specs.Prelude.{◌≡◌, ◌+◌, ◌-◌, ◌*◌, ◌≤◌, ◌<◌, ltb, length};
@@ -10,7 +10,7 @@ ghost use Rattle.asked_lines.specs.Lines.{index_line_of, speed_line_of, line_of,
 use desk::{Answer, SpeedAnswer};
 use line::{put_bounds, put_refusal, put_speeds};
 
-// What is asked of each block: `fleet` asks for the index, `speeds` for the speed.
+// What is asked of each block: the index, or the speed, as `speeds` does.
 #[derive(Clone, Copy)]
 pub enum Asked {
     Index,

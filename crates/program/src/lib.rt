@@ -1,4 +1,4 @@
-// The programs' work: a line for each block of standard input, 128 blocks at a time.
+// A program's work, whatever it asks: a line for each block of standard input, 128 blocks at a time.
 #![tactic(auto)]
 
 ghost use Rattle.std.specs.Prelude.{◌≡◌, ◌≤◌, length, take};
