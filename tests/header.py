@@ -23,7 +23,8 @@ def plain(words):
 def differences(header, rules, readme, command):
     """What the refusals of the header, the rules, README's table and the command don't share."""
     constants = {int(number): (name, plain(words)) for name, number, words in CONSTANT.findall(header)}
-    names = {int(number): re.sub(r"(?<=[a-z])(?=[A-Z])", "_", name).upper() for name, number in NUMBER.findall(rules)}
+    # The header alone has a name for 0, which is no refusal.
+    names = {0: "NONE"} | {int(number): re.sub(r"(?<=[a-z])(?=[A-Z])", "_", name).upper() for name, number in NUMBER.findall(rules)}
     table = readme[readme.index("| refused | field | what is wrong |"):]
     rows = {int(number): (field, text) for number, field, text in ROW.findall(table[:table.index("\n\n")])}
     said = ast.literal_eval(TABLE.search(command).group(1))

@@ -4,7 +4,7 @@
 import glob, os, re, sys
 
 ROOT = os.path.dirname(os.path.dirname(os.path.abspath(__file__)))
-DECLARED = re.compile(r"\b(?:fn|struct|enum|mod|record|data) ([^\s:(){}<;]+)|^ *(?:(?:abbrev|unfoldable|pub) )*([^\s:(){}]+(?: [^\s:(){}]+)*) : ")
+DECLARED = re.compile(r"\b(?:fn|struct|enum|trait|type|static|mod|record|data) ([^\s:(){}<;]+)|^ *(?:(?:abbrev|unfoldable|pub) )*([^\s:(){}]+(?: [^\s:(){}]+)*) : ")
 NAME = re.compile(r"[A-Za-z][\w'?-]*$")
 PLACE = re.compile(r"\b([a-z_]+)/([A-Za-z_0-9]+)\b")
 

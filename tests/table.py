@@ -1,6 +1,6 @@
 #!/usr/bin/env python3
-"""The table of powers of 2 that `power` takes logarithms and powers from: its numbers as lists (specs/Table.antt), as functions
-(src/table.rt), and the functions' proofs, an arm for an entry. Every number is made of whole numbers alone, by square roots.
+"""The table of powers of 2 that `power` takes logarithms and powers from: its numbers as lists (specs/Table.antt) and as the
+code's tables (src/table.rt). Every number is made of whole numbers alone, by square roots.
    tests/table.py            writes these files
    tests/table.py --check    says whether they are what it would write"""
 import math, os, sys
@@ -51,51 +51,15 @@ unfoldable pub {name}s : List ℕ
     return text
 
 
-def functions(parts):
-    text = """// The table of powers of 2, as tests/table.py makes it. A `match` is compiled to a table in memory that is only read; an array would be laid
-// on the stack at each call.
-ghost use Rattle.std.specs.Prelude.{◌≡◌, ◌<◌, get_or};
-"""
-    text += f"ghost use Rattle.power.specs.Table.{{{', '.join(name + 's' for name, _, _ in parts)}}};\n"
+def statics(parts):
+    text = "// The table of powers of 2, as tests/table.py makes it.\n"
     for name, k, entries in parts:
-        arms = "".join(f"        {at} => {entry},\n" for at, entry in enumerate(entries[:-1]))
         text += f"""
 // 2^(i/{2 ** k}), in units of 2^-63.
-pub(crate) fn {name}(i: u64) -> u64
-    requires {{ i < {len(entries)} }}
-    ensures {{ result ≡ get_or {name}s i 0 }}
-{{
-    match i {{
-{arms}        _ => {entries[-1]},
-    }}
-}}
+pub(crate) static {name.upper()}S: [u64; {len(entries)}] = [
+{"".join(f"    {entry},{chr(10)}" for entry in entries)}];
 """
     return text
-
-
-def match_answers(room, name, listed, count, uses, rest):
-    """The answers of a match over a table, an arm for an entry; of the last that its number is no other."""
-    answers = "".join(f"""
-pub returns-in-{at} : goal.returns-in-{at}
-unfolding {listed}
-returns-in-{at} c = arm c.args.i {at} c.in-{at}.is
-""" for at in range(count - 1))
-    before, after = uses
-    return f"""-- `{room}::table::{name}` meets its contract: each arm has the entry at its own place, and the last is left for the last. Assumes nothing.
-{before}use mathlib.Core.Path.{{◌≡◌}}
-use Prim.Native.Nat.{{ℕ}}
-use native.Mathlib.Omega.{{arith}}
-use lib.ListN.{{get_or}}
-{after}use Rattle.{room}.specs.Table.{{{listed}}}
-use Rattle.{room}.proofs.table.{name}.Goals as goal
-
-arm : (i k : ℕ) → i ≡ k → get_or {listed} k 0 ≡ get_or {listed} i 0
-arm i k e = rw e
-{answers}
-pub returns-in_default : goal.returns-in_default
-unfolding {listed}
-returns-in_default c ={rest}
-"""
 
 
 def hold(room, files):
@@ -112,10 +76,4 @@ def hold(room, files):
 
 if __name__ == "__main__":
     parts = [(name, k, part(k, count)) for name, k, count in PARTS]
-    files = {"specs/Table.antt": listed(parts), "src/table.rt": functions(parts)}
-    for name, _, entries in parts:
-        last = len(entries) - 1
-        files[f"proofs/table/{name}/Answers.antt"] = match_answers(
-            "power", name, f"{name}s", len(entries), ("use borrow.Author.Rules.{rules}\n", "use Rattle.formula.proofs.Tables.{past}\n"),
-            f" arm c.args.i {last} (omega (arith, past c.args.i {last} (search rules), c.requires))")
-    hold(ROOM, files)
+    hold(ROOM, {"specs/Table.antt": listed(parts), "src/table.rt": statics(parts)})

@@ -1,114 +1,52 @@
-// The lines of either question: for each block its number and the desk's answer, about the index or about the speed.
+// The speed as what is asked of each block; and the lines of whatever is asked, with one rule for the room that they want.
 #![tactic(auto)]
 
-ghost use Rattle.std.specs.Prelude.{◌≡◌, ◌+◌, ◌-◌, ◌*◌, ◌≤◌, ◌<◌, ltb, length};
-ghost use Rattle.formula.specs.Words.{if};
-ghost use Rattle.fields.specs.Numbers.{number_at};
+ghost use Rattle.std.specs.Prelude.{◌≡◌, ◌+◌, ◌*◌, ◌≤◌, ◌<◌, length};
+ghost use Rattle.std.proofs.Common.{rules};
 ghost use Rattle.decimal.specs.Digits.{Put};
-ghost use Rattle.asked_lines.specs.Lines.{index_line_of, speed_line_of, line_of, pieces, lines_to, lines_within};
+ghost use Rattle.lines.specs.Lines.{lines_within};
+ghost use Rattle.asked_lines.specs.Lines.{speed_line_of};
 
-use desk::{Answer, SpeedAnswer};
-use line::{put_bounds, put_refusal, put_speeds};
+use line::{put_refusal, put_speeds};
+use lines::Question;
 
-// What is asked of each block: the index, or the speed, as `speeds` does.
-#[derive(Clone, Copy)]
-pub enum Asked {
-    Index,
-    Speed,
-}
+// The speed of each block, as `speeds` asks.
+pub struct Speed;
 
-// A whole block's IMO number.
-fn imo(block: &[u8]) -> u64
-    requires { length block.now ≡ 512 }
-    ensures { result ≡ number_at block.now 4 4 }
-{
-    fields::number_at(block, 4, 4)
-}
+impl Question for Speed {
+    ghost line = { speed_line_of };
 
-// The index of block n from `at` on; answers the place behind it.
-fn put_index(out: &mut [u8], at: usize, n: u64, block: &[u8]) -> usize
-    requires { at + 126 ≤ length out.old }
-    ensures put { Put out.old at (index_line_of n block.now) out.new result }
-    ensures upper_bound { result ≤ at + 126 }
-{
-    let answer = desk::bounds_of_block(block);
-    match answer {
-        Answer::Bounds(bounds) => put_bounds(out, at, n, imo(block), bounds.lower, bounds.upper),
-        Answer::Refused(refusal) => put_refusal(out, at, n, ship::number(refusal) as u64),
+    ghost LONGEST = { 126 };
+
+    const LONGEST: usize = 126;
+
+    fn put_line(out: &mut [u8], at: usize, n: u64, block: &[u8]) -> usize {
+        match desk::speeds_of_block(block) {
+            Ok(v) => put_speeds(
+                out,
+                at,
+                n,
+                fields::number_at(block, 4, 4),
+                v.most.lo,
+                v.most.hi,
+                v.least.lo,
+                v.least.hi,
+            ),
+            Err(refusal) => put_refusal(out, at, n, u64::from(ship::number(refusal))),
+        }
     }
+
+    ghost fits = { Prim.search rules };
 }
 
-// The speed of block n likewise.
-fn put_speed(out: &mut [u8], at: usize, n: u64, block: &[u8]) -> usize
-    requires { at + 126 ≤ length out.old }
-    ensures put { Put out.old at (speed_line_of n block.now) out.new result }
-    ensures upper_bound { result ≤ at + 126 }
+// The lines of the blocks in `bytes`, as `lines::put_lines` puts them, where the buffer has the bytes of the longest line of any question, 126,
+// for each; otherwise none. (Beside `lines::put_lines`, which asks for the longest line of its own question: here 126 bytes a line are the
+// promise, whatever is asked, and docs/PROMISES.md names both.)
+pub fn put_lines<Q: Question>(out: &mut [u8], first: u32, bytes: &[u8]) -> usize
+    ensures { Put out.old 0 (lines_within 126 out.old Q.line first bytes.now) out.new result }
 {
-    let answer = desk::speeds_of_block(block);
-    match answer {
-        SpeedAnswer::Speeds(v) => put_speeds(
-            out,
-            at,
-            n,
-            imo(block),
-            v.most.lo,
-            v.most.hi,
-            v.least.lo,
-            v.least.hi,
-        ),
-        SpeedAnswer::Refused(refusal) => put_refusal(out, at, n, ship::number(refusal) as u64),
-    }
-}
-
-// The line of block n from `at` on; answers the place behind it.
-fn put_line(out: &mut [u8], at: usize, asked: Asked, n: u64, block: &[u8]) -> usize
-    requires { at + 126 ≤ length out.old }
-    ensures put { Put out.old at (line_of asked n block.now) out.new result }
-    ensures upper_bound { result ≤ at + 126 }
-{
-    match asked {
-        Asked::Index => put_index(out, at, n, block),
-        Asked::Speed => put_speed(out, at, n, block),
-    }
-}
-
-// Where the piece from `at` on ends: after 512 bytes, or with the file.
-fn piece_end(at: usize, size: usize) -> usize
-    requires { at ≤ size }
-    ensures value { result ≡ if (ltb (size - at) 512) size (at + 512) }
-    ensures lower_bound { (at ≤ result) × (result ≤ size) }
-{
-    if size - at < 512 {
-        return size;
-    }
-    at + 512
-}
-
-// The lines of all the pieces, one after the other.
-fn put_pieces(out: &mut [u8], asked: Asked, first: u64, bytes: &[u8], count: usize) -> usize
-    requires { (first < 4294967296) × (count ≡ pieces bytes.now) × (count * 126 ≤ length out.old) }
-    ensures { Put out.old 0 (lines_to asked first bytes.now count) out.new result }
-{
-    let mut end = 0;
-    let mut i = 0;
-    while i < count {
-        let at = i * 512;
-        let to = piece_end(at, bytes.len());
-        end = put_line(out, end, asked, first + i as u64, &bytes[at..to]);
-        i += 1;
-    }
-    end
-}
-
-// The lines of the blocks in `bytes`, of which the first has the number `first`, at the start of the buffer; answers how many bytes
-// they are. A last piece of less than 512 bytes has its line too. A buffer with less than 126 bytes for each line gets none.
-pub fn put_lines(out: &mut [u8], asked: Asked, first: u32, bytes: &[u8]) -> usize
-    ensures { Put out.old 0 (lines_within out.old asked first bytes.now) out.new result }
-{
-    let size = bytes.len();
-    let count = size / 512 + (size % 512 + 511) / 512;
-    if out.len() / 126 < count {
+    if out.len() / 126 < bytes.len().div_ceil(512) {
         return 0;
     }
-    put_pieces(out, asked, first as u64, bytes, count)
+    lines::put_lines::<Q>(out, first, bytes)
 }

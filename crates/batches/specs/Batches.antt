@@ -1,30 +1,30 @@
 -- A program's batches: with which block each begins, and after which there is no other.
 -- Assumes nothing.
-use Rattle.std.specs.Prelude.{ℕ, ◌+◌, ◌%◌, ◌≤◌, ◌<◌, ◌≡◌, Bool, true, ◌&&◌, ltb}
-use Rattle.batches.specs.declared.Batch.{Batch}
+use Rattle.std.specs.Prelude.{ℕ, ◌+◌, ◌%◌, ◌≤◌, ◌<◌, ◌≡◌, Bool, true, ◌&&◌, ltb, Option, Some, None, IfSome}
+use Rattle.formula.specs.Words.{if}
 
 -- Blocks are numbered from 0.
-abbrev pub first_batch : Batch
-first_batch = record { first = 0; more = true }
+abbrev pub first_batch : ℕ
+first_batch = 0
 
--- After batch b; `going` is whether more may come, which it may only behind a full one, that is 65,536 bytes. The numbers go on by 128,
--- and no batch begins beyond block 65,535.
-unfoldable pub batch_after : Batch → Bool → Batch
-batch_after b going = record { first = b.first + 128; more = going && ltb (b.first + 128) 65536 }
+-- With which block the batch after the one from block b on begins; `going` is whether more may come, which it may only behind a full one, that
+-- is 65,536 bytes. The numbers go on by 128, and no batch begins beyond block 65,535.
+unfoldable pub batch_after : ℕ → Bool → Option ℕ
+batch_after b going = if (going && ltb (b + 128) 65536) (Some (b + 128)) None
 
 -- Batch n where the lines before it were written; otherwise none.
-abbrev pub batch_if : Batch → Bool → Batch
-batch_if n written = record { first = n.first; more = written && n.more }
+abbrev pub batch_if : {B : Type 0} → Option B → Bool → Option B
+batch_if n written = if written n None
 
--- One of the 512 batches: its 128 numbers are below 65,536.
-pub record Begun (b : Batch) : Type 0 where
-  pub multiple : b.first % 128 ≡ 0
-  pub below : b.first < 65536
+-- One of the 512 batches begins with block b: its 128 numbers are below 65,536.
+pub record Begun (b : ℕ) : Type 0 where
+  pub multiple : b % 128 ≡ 0
+  pub below : b < 65536
 
--- What may follow batch b, whatever was read and written: its numbers go on, and there is a batch only where a full b has one after it.
-pub record Follows (b r : Batch) : Type 0 where
-  pub numbered : r.first ≡ (batch_after b true).first
-  pub allowed : r.more ≡ true → (batch_after b true).more ≡ true
+-- What may follow the batch from block b on, whatever was read and written: its numbers go on, and there is a batch only where a full one has
+-- one after it.
+abbrev pub Follows : ℕ → Option ℕ → Type 0
+Follows b r = IfSome r (λ n. batch_after b true ≡ Some n)
 
 -- With which block the batch after the last would begin: there was one, and never more than 512.
 pub record Ended (n : ℕ) : Type 0 where

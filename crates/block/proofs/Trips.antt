@@ -9,6 +9,7 @@ use borrow.Author.Tests.{eqb-true, eq-eqb, not-false}
 use lib.Dec.{eqb}
 use lib.ListN.{length, get_or, take, drop, drop_of_length-le}
 use lib.Seq.{drop-cons, take-add, take_all}
+use Rattle.std.specs.Prelude.{None, Ok}
 use Rattle.fields.specs.Numbers.{number_at, Bytes}
 use Rattle.fields.specs.Runs.{pack, total, numbers_at, numbers_of, packed}
 use Rattle.fields.specs.Checks.{sums}
@@ -20,13 +21,13 @@ use Rattle.ship.specs.Rules.{nonzero, tests, refusal_of}
 use Rattle.ship.specs.declared.Crane.{Crane}
 use Rattle.ship.specs.declared.Particulars.{Particulars}
 use Rattle.ship.specs.declared.Ship.{Ship}
-use Rattle.ship.specs.declared.Refusal.TheVariants.{None, Length, Check}
+use Rattle.ship.specs.declared.Refusal.TheVariants.{Length, Check}
 use Rattle.ship.proofs.Order.{next_test}
 use Rattle.ship.proofs.Tests.{neither, is_zero}
 use Rattle.ship.proofs.Right.{numbers_accepted, own_refusal, all_passed as passed_rows}
 use Rattle.build_fields.specs.Fields.{front, cranes, sizes, added, newer, build_from}
 use Rattle.layout.specs.Layout.{head, entry, entries, fields, widths, body, encode, numbers_in, ship_from, ship_in}
-use Rattle.block.specs.Answers.{length_refused, check_refused, zeros_refused, block_tests, read_refusal, loaded, read_of}
+use Rattle.block.specs.Answers.{length_refused, check_refused, zeros_refused, block_tests, read_refusal, read_of}
 use Rattle.layout.proofs.Codec.{encode_length, take_body, drop_body}
 use Rattle.layout.proofs.Fitting.{fits}
 
@@ -87,7 +88,7 @@ module _ (s : Ship) (whole : Entries s) (own : refusal_of s ≡ None) where
   unfolding read_refusal block_tests first_of refusal_of
   no_refusal = rw (eq-eqb (length (encode s)) 512 (encode_length s), check_holds, zeros_hold, ship_back) own
 
-  pub read_back : read_of (encode s) ≡ loaded None s
+  pub read_back : read_of (encode s) ≡ Ok s
   unfolding read_of
   read_back = rw (no_refusal, ship_back)
 
@@ -105,8 +106,8 @@ record Passed (b : List ℕ) : Type 0 where
 all_passed : (b : List ℕ) → read_refusal b ≡ None → Passed b
 unfolding read_refusal block_tests first_of
 all_passed b e =
-    let l = next_test (length_refused b) Length _ refl e in
-    let c = next_test (check_refused b) Check _ refl l.1 in
+    let l = next_test (length_refused b) Length _ e in
+    let c = next_test (check_refused b) Check _ l.1 in
     record { length = l.0; check = c.0; own = c.1 }
 
 -- So it has, beside its record:
@@ -150,13 +151,13 @@ to_table b h =
     ))
 
 body_back : (b : List ℕ) → Bytes b → Sealed b → body (ship_in b) ≡ take 508 b
-unfolding body numbers_in widths fields head entries entry front cranes sizes added newer total
+unfolding body numbers_in widths fields head entries entry front cranes sizes added newer
 body_back b h r =
     let n = r.long in
     ap (pack widths) (to_table b r) ∙ repack widths b 0 h (omega arith)
 
 pub encode_back : (b : List ℕ) → Bytes b → read_refusal b ≡ None → encode (ship_in b) ≡ b
-unfolding encode numbers_at total
+unfolding encode numbers_at
 encode_back b h e =
     let r = sealed b e in
     let n = r.long in

@@ -1,16 +1,15 @@
 -- What reading a block and writing into a file answer, and what each lent byte then is.
 -- Assumes nothing.
-use Rattle.std.specs.Prelude.{ℕ, ◌+◌, ◌*◌, List, [], ◌∷◌, ◌++◌, Bool, false, ◌||◌, not, length, get_or, take, drop, eqb, ltb}
+use Rattle.std.specs.Prelude.{ℕ, ◌+◌, ◌*◌, List, [], ◌∷◌, ◌++◌, Bool, false, ◌||◌, not, length, get_or, take, drop, eqb, ltb, Option, None, Some, is_none, Result, Ok, Err}
 use Rattle.formula.specs.Words.{if}
 use Rattle.fields.specs.Numbers.{number_at}
 use Rattle.fields.specs.Checks.{sums}
-use Rattle.ship.specs.Refusals.{number_of, first_of}
+use Rattle.ship.specs.Refusals.{first_of}
 use Rattle.ship.specs.Rules.{nonzero, tests}
 use Rattle.ship.specs.declared.Ship.{Ship}
 use Rattle.ship.specs.declared.Refusal.{Refusal}
-use Rattle.ship.specs.declared.Refusal.TheVariants.{None, Length, Check, NoBlock}
-use Rattle.layout.specs.Layout.{encode, numbers_in, ship_in, empty_ship}
-use Rattle.block.specs.declared.Loaded.{Loaded}
+use Rattle.ship.specs.declared.Refusal.TheVariants.{Length, Check, NoBlock}
+use Rattle.layout.specs.Layout.{encode, numbers_in, ship_in}
 
 -- ── Reading ─────────────────────────────────────────────────────────────────────────────────
 
@@ -37,15 +36,17 @@ unfoldable pub block_tests : List ℕ → Ship → List (Bool × Refusal)
 block_tests b s = (check_refused b, Check) ∷ tests (zeros_refused b) s
 
 -- The first refusal of bytes, or none.
-unfoldable pub read_refusal : List ℕ → Refusal
+unfoldable pub read_refusal : List ℕ → Option Refusal
 read_refusal b = first_of ((length_refused b, Length) ∷ block_tests b (ship_in b)) None
 
-abbrev pub loaded : Refusal → Ship → Loaded
-loaded r s = record { refusal = r; ship = s }
+-- A value, unless there is a refusal.
+abbrev pub unless : {A : Type 0} → Option Refusal → A → Result A Refusal
+unless None a = Ok a
+unless (Some r) a = Err r
 
--- The record of an accepted block; on refusal the empty one.
-unfoldable pub read_of : List ℕ → Loaded
-read_of b = loaded (read_refusal b) (if (eqb (number_of (read_refusal b)) 0) (ship_in b) empty_ship)
+-- The record of an accepted block, or the refusal alone.
+unfoldable pub read_of : List ℕ → Result Ship Refusal
+read_of b = unless (read_refusal b) (ship_in b)
 
 -- ── Writing ─────────────────────────────────────────────────────────────────────────────────
 
@@ -54,9 +55,9 @@ abbrev pub no_block : List ℕ → ℕ → Bool
 no_block f n = ltb (length f) (n * 512 + 512)
 
 -- The record's own refusal, then 17.
-unfoldable pub write_refusal : List ℕ → ℕ → Ship → Refusal
+unfoldable pub write_refusal : List ℕ → ℕ → Ship → Option Refusal
 write_refusal f n s = first_of (tests false s ++ ((no_block f n, NoBlock) ∷ [])) None
 
 -- The file with the ship in its block, every other byte as it stood; on refusal as it stood.
 unfoldable pub write_of : List ℕ → ℕ → Ship → List ℕ
-write_of f n s = if (eqb (number_of (write_refusal f n s)) 0) (take (n * 512) f ++ encode s ++ drop (n * 512 + 512) f) f
+write_of f n s = if (is_none (write_refusal f n s)) (take (n * 512) f ++ encode s ++ drop (n * 512 + 512) f) f

@@ -14,18 +14,11 @@ use ship::{Build, Crane, Hull};
 pub fn nothing_added() -> Build
     ensures { result ≡ no_build }
 {
-    let hull = Hull {
-        volume: 0,
-        length: 0,
-        breadth: 0,
-        draught: 0,
-    };
-    let none = Crane { swl: 0, reach: 0 };
     Build {
         lightweight: 0,
-        hull,
+        hull: Hull::default(),
         cranes: 0,
-        gear: [none, none, none, none, none, none, none, none],
+        gear: [Crane::default(); 8],
         edition: 0,
     }
 }
@@ -41,25 +34,14 @@ fn crane_at(block: &[u8], at: usize) -> Crane
     }
 }
 
-fn gear_in(block: &[u8]) -> [Crane; 8]
-    requires { length block.now ≡ 512 }
+fn gear_in(block: &[u8; 512]) -> [Crane; 8]
     ensures { result ≡ gear_from (numbers_at block.now 144 (widths_of (cranes no_build.gear))) }
 {
-    [
-        crane_at(block, 144),
-        crane_at(block, 148),
-        crane_at(block, 152),
-        crane_at(block, 156),
-        crane_at(block, 160),
-        crane_at(block, 164),
-        crane_at(block, 168),
-        crane_at(block, 172),
-    ]
+    std::array::from_fn(|i| crane_at(block, 144 + 4 * i))
 }
 
-// What layout 2 adds, from a block that has 512 bytes (rule 1). Most blocks have none of it, and one look at the bytes tells.
-pub fn build_in(block: &[u8]) -> Build
-    requires { length block.now ≡ 512 }
+// What layout 2 adds. Most blocks have none of it, and one look at the bytes tells.
+pub fn build_in(block: &[u8; 512]) -> Build
     ensures { result ≡ build_from (numbers_at block.now 132 (widths_of (added no_build))) }
 {
     if all_zero(&block[132..188]) {
@@ -81,60 +63,47 @@ pub fn build_in(block: &[u8]) -> Build
     }
 }
 
-// The widths of bytes 132 to 143, of the crane entries, and of bytes 176 to 507.
-const FRONT: [usize; 5] = [4, 4, 1, 1, 2];
-
-const GEAR: [usize; 16] = [2, 2, 2, 2, 2, 2, 2, 2, 2, 2, 2, 2, 2, 2, 2, 2];
-
-const SIZES: [usize; 4] = [4, 4, 4, 320];
-
+// Bytes 132 to 143.
 fn write_front(part: &mut [u8], b: Build)
     requires { length part.old ≡ 12 }
     ensures { part.new ≡ packed (front b) }
 {
-    let widths = FRONT;
-    let numbers = [b.lightweight, b.hull.volume, b.cranes, b.edition, 0];
-    put_run(part, &widths, &numbers);
+    let fields = [
+        (4, b.lightweight),
+        (4, b.hull.volume),
+        (1, b.cranes),
+        (1, b.edition),
+        (2, 0),
+    ];
+    put_run(part, &fields);
 }
 
+// The crane entries, each of 4 bytes. By place: of what `chunks_mut` lends a proof knows the length alone.
 fn write_gear(part: &mut [u8], gear: [Crane; 8])
     requires { length part.old ≡ 32 }
     ensures { part.new ≡ packed (cranes gear) }
 {
-    let widths = GEAR;
-    let c0 = gear[0];
-    let c1 = gear[1];
-    let c2 = gear[2];
-    let c3 = gear[3];
-    let c4 = gear[4];
-    let c5 = gear[5];
-    let c6 = gear[6];
-    let c7 = gear[7];
-    let numbers = [
-        c0.swl, c0.reach, c1.swl, c1.reach, c2.swl, c2.reach, c3.swl, c3.reach, c4.swl, c4.reach,
-        c5.swl, c5.reach, c6.swl, c6.reach, c7.swl, c7.reach,
-    ];
-    put_run(part, &widths, &numbers);
+    for (i, crane) in gear.iter().enumerate() {
+        let at = 4 * i;
+        put_run(&mut part[at..at + 4], &[(2, crane.swl), (2, crane.reach)]);
+    }
 }
 
-// And zeros behind.
+// Bytes 176 to 187, and zeros behind.
 fn write_sizes(part: &mut [u8], h: Hull)
     requires { length part.old ≡ 332 }
     ensures { part.new ≡ packed (sizes h ++ rest) }
 {
-    let widths = SIZES;
-    let numbers = [h.length, h.breadth, h.draught, 0];
-    put_run(part, &widths, &numbers);
+    let fields = [(4, h.length), (4, h.breadth), (4, h.draught), (320, 0)];
+    put_run(part, &fields);
 }
 
-// Over a part of 376 bytes, which the block's writer lends.
+// Over a part of 376 bytes, which the block's writer lends. (Parts are slices: cut as arrays, each cut would answer an Option that is never None.)
 pub fn write_newer(part: &mut [u8], b: Build)
     requires { length part.old ≡ 376 }
     ensures { part.new ≡ packed (newer b) }
 {
-    let gear = b.gear;
-    let hull = b.hull;
     write_front(&mut part[0..12], b);
-    write_gear(&mut part[12..44], gear);
-    write_sizes(&mut part[44..376], hull);
+    write_gear(&mut part[12..44], b.gear);
+    write_sizes(&mut part[44..376], b.hull);
 }

@@ -1,44 +1,40 @@
 // Rule 18, of the lightweight, the hull and the cranes; and whether anything that layout 2 adds is there, which rule 16 asks of layout 1.
+// A type, a method and the like are tested as numbers: each contract says of any numbers of a record, also of those that no enum has, whether a
+// rule of ship/specs/Rules.antt is broken.
+// A limit is two comparisons, under the least or over the most, as the document's table reads: `!(lo..=hi).contains(&n)` says a refusal by a negation.
 #![tactic(auto)]
 
 ghost use Rattle.std.specs.Prelude.{◌≡◌, get_or};
+ghost use Rattle.std.specs.List.{list_any, enumerate_from};
 ghost use Rattle.ship.specs.Record.{no_crane};
 ghost use Rattle.ship.specs.Rules.{any_below, lifting, shaped, built, newer_refused, lightweight_refused, crane_refused, cranes_refused};
 ghost use Rattle.ship.specs.Rules.{size_refused, hull_refused, build_refused};
 
 use ship::{Build, Crane, Hull};
 
-fn is_shaped(h: Hull) -> bool
-    ensures { result ≡ shaped h }
-{
-    (h.volume != 0) | (h.length != 0) | (h.breadth != 0) | (h.draught != 0)
-}
-
 // Whether an entry has a load or a reach, used or not.
-fn is_geared(gear: [Crane; 8]) -> bool
-    ensures { result ≡ any_below (λ i. lifting (get_or gear i no_crane)) 8 }
+fn any_lifting(gear: &[Crane]) -> bool
+    ensures { result ≡ list_any lifting gear.now }
 {
-    let mut some = false;
-    let mut i: usize = 0;
-    while i < 8 {
-        let c = gear[i];
-        some = some | ((c.swl != 0) | (c.reach != 0));
-        i += 1;
-    }
-    some
+    gear.iter().any(|c| *c != Crane::default())
 }
 
-fn is_built(b: Build) -> bool
-    ensures { result ≡ built b }
+// By its parts: tried as `*b != Build::default()`; the proof of that comparison, of a struct with an array of structs, didn't close.
+#[tactic(auto, using(ship::proofs::Tests::any_crane), unfolding(ship::specs::Rules::built))]
+fn is_built(b: &Build) -> bool
+    ensures { result ≡ built b.now }
 {
-    let hull = b.hull;
-    let gear = b.gear;
-    (b.edition != 0) | (b.lightweight != 0) | is_shaped(hull) | (b.cranes != 0) | is_geared(gear)
+    (b.edition != 0)
+        | (b.lightweight != 0)
+        | (b.hull != Hull::default())
+        | (b.cranes != 0)
+        | any_lifting(&b.gear)
 }
 
 // Rule 16, in layout 1.
-pub fn newer_broken(layout: u64, b: Build) -> bool
-    ensures { result ≡ newer_refused layout b }
+#[tactic(auto, unfolding(ship::specs::Rules::built))]
+pub fn newer_broken(layout: u64, b: &Build) -> bool
+    ensures { result ≡ newer_refused layout b.now }
 {
     (layout == 1) & is_built(b)
 }
@@ -54,26 +50,21 @@ fn crane_broken(used: u64, i: u64, c: Crane) -> bool
     ensures { result ≡ crane_refused used i c }
 {
     (i < used) & (((c.swl < 1) | (10000 < c.swl)) | ((c.reach < 1) | (10000 < c.reach)))
-        | (used <= i) & ((c.swl != 0) | (c.reach != 0))
+        | (used <= i) & (c != Crane::default())
 }
 
-fn entries_broken(used: u64, gear: [Crane; 8]) -> bool
-    ensures { result ≡ any_below (λ i. crane_refused used i (get_or gear i no_crane)) 8 }
+fn any_broken(used: u64, gear: &[Crane]) -> bool
+    ensures { result ≡ list_any (λ entry. crane_refused used entry.0 entry.1) (enumerate_from 0 gear.now) }
 {
-    let mut broken = false;
-    let mut i: usize = 0;
-    while i < 8 {
-        let c = gear[i];
-        broken = broken | crane_broken(used, i as u64, c);
-        i += 1;
-    }
-    broken
+    gear.iter()
+        .enumerate()
+        .any(|(i, c)| crane_broken(used, i as u64, *c))
 }
 
-fn cranes_broken(kind: u64, used: u64, gear: [Crane; 8]) -> bool
-    ensures { result ≡ cranes_refused kind used gear }
+fn cranes_broken(kind: u64, used: u64, gear: &[Crane; 8]) -> bool
+    ensures { result ≡ cranes_refused kind used gear.now }
 {
-    ((8 < used) | ((kind != 8) & (used != 0))) | entries_broken(used, gear)
+    ((8 < used) | ((kind != 8) & (used != 0))) | any_broken(used, gear)
 }
 
 // A general cargo ship's, each by itself.
@@ -91,7 +82,7 @@ fn hull_broken(kind: u64, h: Hull) -> bool
     ensures { result ≡ hull_refused kind h }
 {
     if kind != 8 {
-        return is_shaped(h);
+        return h != Hull::default();
     }
     if size_broken(h) {
         return true;
@@ -100,12 +91,11 @@ fn hull_broken(kind: u64, h: Hull) -> bool
 }
 
 // Rule 18.
-pub fn build_broken(kind: u64, b: Build) -> bool
-    ensures { result ≡ build_refused kind b }
+#[tactic(auto, unfolding(ship::specs::Rules::build_refused))]
+pub fn build_broken(kind: u64, b: &Build) -> bool
+    ensures { result ≡ build_refused kind b.now }
 {
-    let hull = b.hull;
-    let gear = b.gear;
     lightweight_broken(kind, b.lightweight)
-        | cranes_broken(kind, b.cranes, gear)
-        | hull_broken(kind, hull)
+        | cranes_broken(kind, b.cranes, &b.gear)
+        | hull_broken(kind, b.hull)
 }

@@ -5,7 +5,7 @@ ghost use Rattle.std.specs.Prelude.{◌≡◌, ◌*◌, ◌^◌, ◌≤◌};
 ghost use Rattle.ship.specs.Accepted.{Within, Shaped};
 ghost use Rattle.ship.specs.Figures.{hull_of};
 ghost use Rattle.correction.specs.Correction.{Between, Fast, WithinLimits, Spread, Scalable, limited, inverse_froude_down, inverse_froude_up, inverse_froude};
-ghost use Rattle.correction.specs.Correction.{inverse_block, raised_of, squared_of, scaled_of, capped_of, product_of, general_of};
+ghost use Rattle.correction.specs.Correction.{inverse_block, raised_of, squared_of, scaled_of, product_of, general_of};
 
 use power::Bounds;
 use ship::Hull;
@@ -14,11 +14,7 @@ use ship::Hull;
 fn within_limits(a: u64) -> u64
     ensures { result ≡ limited a }
 {
-    if a <= 1677721600 {
-        1677721600
-    } else {
-        if a <= 2415919104 { a } else { 2415919104 }
-    }
+    a.clamp(1677721600, 2415919104)
 }
 
 // 1/Fn from below: w is the sixth root of the volume, and the root of 9.81 is at least 78888 / 25187.
@@ -29,7 +25,7 @@ fn inverse_froude_down(w: u64, v: u64) -> u64
     number::division::floor_scaled(w * 59166000, v * 16195241, 1250, 2)
 }
 
-// And from above: it is at most 225899 / 72124.
+// And from above: it is at most 225899 / 72124. A function of its own, since it rounds the other way, which is no constant.
 fn inverse_froude_up(w: u64, v: u64) -> u64
     requires { (w ≤ 11 * 2 ^ 30) × Within 1900000 230000000 v }
     ensures { result ≡ inverse_froude_up w v }
@@ -55,8 +51,7 @@ fn inverse_block(hull: Hull) -> u64
     ensures { result ≡ inverse_block (hull_of hull) }
 {
     let block = hull.length * hull.breadth * hull.draught;
-    let q = number::division::floor_scaled(block, hull.volume * 1000000, 16384, 2);
-    if q <= 3221225472 { q } else { 3221225472 }
+    number::division::floor_scaled(block, hull.volume * 1000000, 16384, 2).min(3221225472)
 }
 
 // The power 3/10 of what stands between a / u and b / u.
@@ -65,10 +60,9 @@ fn raised(u: u64, a: u64, b: u64) -> Bounds
     ensures { result ≡ raised_of u a b }
 {
     let y = power::power(a, u, 3, 10);
-    let d = 10 * a;
     Bounds {
         lo: y.lo,
-        hi: y.hi + (y.hi * (3 * (b - a)) + (d - 1)) / d,
+        hi: y.hi + (y.hi * (3 * (b - a))).div_ceil(10 * a),
     }
 }
 
@@ -79,7 +73,7 @@ fn squared(a: Bounds) -> Bounds
 {
     Bounds {
         lo: 29 * (a.lo * a.lo / 4194304) / 37500,
-        hi: (29 * ((a.hi * a.hi + 4194303) / 4194304) + 37499) / 37500,
+        hi: (29 * (a.hi * a.hi).div_ceil(4194304)).div_ceil(37500),
     }
 }
 
@@ -93,12 +87,6 @@ fn scaled(n: Bounds, p: Bounds) -> Bounds
     }
 }
 
-fn at_most_one(n: u64) -> u64
-    ensures { result ≡ capped_of n }
-{
-    if n <= 1073741824 { n } else { 1073741824 }
-}
-
 // f_j from 1/Fn, and from the powers 3/10 of 1/Fn and of 1/C_b.
 fn product(a: Bounds, y: Bounds, c: Bounds) -> Bounds
     requires { WithinLimits a × Between (2 ^ 30) (3 * 2 ^ 30) y × Between (2 ^ 30) (3 * 2 ^ 30) c }
@@ -106,13 +94,14 @@ fn product(a: Bounds, y: Bounds, c: Bounds) -> Bounds
 {
     let f = scaled(squared(a), scaled(y, c));
     Bounds {
-        lo: at_most_one(f.lo),
-        hi: at_most_one(f.hi),
+        lo: f.lo.min(1073741824),
+        hi: f.hi.min(1073741824),
     }
 }
 
 // f_j of a general cargo ship with the speed v, in millionths of a knot. Every speed method keeps v in bounds, and rule 18 leaves what is
-// asked of the hull.
+// asked of the hull. Both stand in each contract: the definitions take plain bounds and a plain hull, so a type that kept them would be opened in
+// each, and `index` asks it of one type of ship alone.
 pub fn general(v: Bounds, hull: Hull) -> Bounds
     requires { Fast v × Shaped (hull_of hull) }
     ensures { result ≡ general_of v (hull_of hull) }

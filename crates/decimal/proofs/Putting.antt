@@ -6,8 +6,8 @@ use mathlib.Core.List.{List, [], ◌∷◌, ◌++◌, append_assoc}
 use native.Mathlib.Numerals.{add-one}
 use native.Mathlib.Omega.{arith}
 use borrow.Rule.Slice.PartMut.{put_mid, Post-is}
-use lib.ListN.{length, take, drop, set, get_or, length-append, length-drop, take-append-drop}
-use lib.Seq.{take_at, drop_at, drop-drop, length-take-le, set_split, take-suc, take-suc-set, take_all}
+use lib.ListN.{length, take, drop, set, length-append, length-drop, take-append-drop}
+use lib.Seq.{take_at, drop_at, drop-drop, length-take-le, set_split}
 use Rattle.decimal.specs.Digits.{over, Put}
 
 module _ (a xs : List ℕ) (at : ℕ) (h : at + length xs ≤ length a) where
@@ -80,12 +80,3 @@ text_byte_put a xs ys at w y e n h =
     let p : Put a at xs (put_mid at (at + w - at) a ys) (at + w) = text_put a xs ys at w e n (omega arith) in
     let m : length (put_mid at (at + w - at) a ys) ≡ length a = ap length p.bytes ∙ over_length a xs at p.room in
     put_put p (byte_put (put_mid at (at + w - at) a ys) (at + w) y (omega arith))
-
--- ── A text copied byte by byte ──────────────────────────────────────────────────────────────
-
-module _ (part text : List ℕ) (i : ℕ) (e : take i part ≡ take i text) where
-  pub copied_again : i < length part → i < length text → take (i + 1) (set part i (get_or text i 0)) ≡ take (i + 1) text
-  copied_again h k = rw (add-one, take-suc-set part i (get_or text i 0) h, take-suc text i 0 k, e)
-
-  pub copied_end : length part ≤ i → length text ≤ i → part ≡ text
-  copied_end h k = sym (take_all i part h) ∙ e ∙ take_all i text k

@@ -68,7 +68,7 @@ decimal_one m n e = sym (value_decimal m) ∙ ap value e ∙ value_decimal n
 
 -- ── How many ────────────────────────────────────────────────────────────────────────────────
 
-width_small : (n : ℕ) → n < 10 → length (decimal n) ≡ 1
+pub width_small : (n : ℕ) → n < 10 → length (decimal n) ≡ 1
 width_small n h = rw (decimal_small n h)
 
 width_large : (n : ℕ) → 10 ≤ n → length (decimal n) ≡ length (decimal (n / 10)) + 1
@@ -98,6 +98,12 @@ width_beyond zero n h = width_least n
 width_beyond (suc k) n h =
     let t : 10 * 10 ^ k ≤ n = rw pow-succ' at h in
     omega (arith, width_large n (omega (arith, one-le-pow k 10 (omega arith))), width_beyond k (n / 10) (omega arith))
+
+-- So one from 10^k on and below ten times that has one digit more than k.
+pub width_from_log : (k n : ℕ) → 10 ^ k ≤ n → n < 10 * 10 ^ k → k + 1 ≡ length (decimal n)
+width_from_log k n least most =
+    let t : n < 10 ^ suc k = rw (pow-succ' 10 k) most in
+    omega (arith, width_beyond k n least, width_within (suc k) n (omega arith) t)
 
 -- A 64-bit number has at most 20 digits.
 pub width_limit : (n : ℕ) → n < 2 ^ 64 → length (decimal n) ≤ 20

@@ -1,54 +1,33 @@
--- What the desk answers where there is a refusal, and where there is none.
+-- The number of an answer, and whether it has a value, by the refusal alone.
 -- Assumes nothing.
-use mathlib.Core.Path.{◌≡◌, refl, sym, ap, ◌∙◌}
-use mathlib.Core.Bool.{Bool, true, false}
-use mathlib.Core.Logic.{◌↔◌}
-use Prim.Native.Nat.{ℕ}
-use mathlib.Core.List.{List}
-use borrow.Author.Tests.{ne_eqb, eqb-true}
-use lib.Dec.{eqb}
-use Rattle.formula.specs.Words.{if}
-use Rattle.ship.specs.Figures.{figures}
-use Rattle.ship.specs.Refusals.{number_of}
-use Rattle.ship.specs.Rules.{refusal_of}
+use mathlib.Core.Path.{◌≡◌, refl, sym}
+use mathlib.Core.Logic.{◌⊎◌, inl, inr, ◌↔◌}
+use native.Mathlib.Omega.{arith}
+use Rattle.std.specs.Prelude.{Option, None, Some, Ok}
 use Rattle.ship.specs.declared.Refusal.{Refusal}
-use Rattle.ship.specs.declared.Refusal.TheVariants.{None}
 use Rattle.ship.specs.declared.Ship.{Ship}
-use Rattle.ship.proofs.Order.{none}
-use Rattle.block.specs.Answers.{read_refusal, read_of}
-use Rattle.block.specs.declared.Loaded.{Loaded}
-use Rattle.block.proofs.Trips.{record_accepted}
-use Rattle.index.specs.Attained.{index_of}
-use Rattle.index.specs.declared.Index.{Index}
-use Rattle.desk.specs.Answers.{answer_by, number_in}
-use Rattle.desk.specs.declared.Answer.TheVariants.{Bounds, Refused}
+use Rattle.ship.proofs.Order as ship
+use Rattle.block.specs.Answers.{unless}
+use Rattle.desk.specs.Answers.{answer_by, refusal_number, number_in, lower_in, upper_in}
 
-pub refused : {r q : Refusal} (s : Ship) → r ≡ q → (number_of r ≡ 0 → ⊥) → Refused r ≡ answer_by q s
-refused {r} s e h = rw (← e, ne_eqb (number_of r) 0 h)
+pub numbered : {A : Type 0} (r : Option Refusal) (x : A) → number_in (unless r x) ≡ refusal_number r
+numbered None x = refl
+numbered (Some r) x = refl
 
-pub bounded : {q : Refusal} {i : Index} (s : Ship) → q ≡ None → i ≡ index_of (figures s) → Bounds i ≡ answer_by q s
-bounded s e h = rw (e, h)
+pub zero_bounded : {A : Type 0} (r : Option Refusal) (x : A) → number_in (unless r x) ≡ 0 ↔ (y : A) × (unless r x ≡ Ok y)
+zero_bounded None x = (λ e. (x, refl), λ h. refl)
+zero_bounded (Some r) x = (λ e. absurd (omega (arith, e, ship.numbered r)), λ h. cc)
 
--- A refusal with the number 0 is none.
-pub is_none : {r q : Refusal} → r ≡ q → number_of r ≡ 0 → q ≡ None
-is_none {r} e h = sym e ∙ none r h
+pub no_bound : (r : Option Refusal) (s : Ship) → (r ≡ None → ⊥) → (lower_in (answer_by r s) ≡ 0) × (upper_in (answer_by r s) ≡ 0)
+no_bound None s h = absurd (h refl)
+no_bound (Some r) s h = (refl, refl)
 
--- The record of an accepted block has no refusal.
-pub block_accepted : (b : List ℕ) → read_refusal b ≡ None → refusal_of (read_of b).ship ≡ None
-unfolding read_of
-block_accepted b e = rw e (record_accepted b e)
+-- The number 0 is that of no refusal.
+pub none : (r : Option Refusal) → refusal_number r ≡ 0 → r ≡ None
+none None h = refl
+none (Some r) h = absurd (omega (arith, h, ship.numbered r))
 
-pub read_accepted : (b : List ℕ) (l : Loaded) → l ≡ read_of b → l.refusal ≡ None → refusal_of l.ship ≡ None
-unfolding read_of
-read_accepted b l k e = rw k (block_accepted b (sym (ap (λ x. x.refusal) k) ∙ e))
-
--- The number of an answer, and whether it has bounds, by the refusal alone.
-pub numbered : (r : Refusal) (s : Ship) → number_in (answer_by r s) ≡ number_of r
-numbered r s = go (eqb (number_of r) 0) refl
-  where
-    go : (t : Bool) → eqb (number_of r) 0 ≡ t → number_in (if t (Bounds (index_of (figures s))) (Refused r)) ≡ number_of r
-    go true e = sym (eqb-true (number_of r) 0 e)
-    go false e = refl
-
-pub zero_bounded : (r : Refusal) (s : Ship) → number_in (answer_by r s) ≡ 0 ↔ (i : Index) × (answer_by r s ≡ Bounds i)
-zero_bounded r s = (λ e. (index_of (figures s), rw (sym (numbered r s) ∙ e)), λ h. ap number_in h.1)
+-- Nothing is refused, or there is a first refusal.
+pub either : (r : Option Refusal) → (r ≡ None) ⊎ ((q : Refusal) × (r ≡ Some q))
+either None = inl refl
+either (Some q) = inr (q, refl)

@@ -10,6 +10,7 @@ use native.Mathlib.Omega.{arith}
 use lib.ListN.{length}
 use lib.Dec.{eqb}
 use borrow.Author.Tests.{eq-eqb, ne_eqb, eqb-true, lt-ltb, le-ltb, ltb-true, not-false}
+use Rattle.std.specs.Prelude.{Option, None, Some, Ok, Err}
 use mathlib.Core.Logic.{◌↔◌}
 use mir.Val.{Val}
 use denote.Shadow.{shadow}
@@ -33,11 +34,11 @@ use Rattle.exact.proofs.Rules as rules
 use Rattle.exact.proofs.Favour.{stands_most, stands_least, no_faster, no_slower, inside_enclosed, ship_inside, low_inside, high_inside}
 use Rattle.ship.specs.Record.{no_build, in_layout, in_class, in_edition, declared_record}
 use Rattle.ship.specs.Figures.{range_of, method_of, figures, ice_of, edition_of}
-use Rattle.ship.specs.Refusals.{number_of, First, given}
+use Rattle.ship.specs.Refusals.{First, given}
 use Rattle.ship.specs.Rules.{outside, layout_refused, type_refused, tests, refusal_of, ice_refused}
 use Rattle.ship.specs.Accepted.{Within, Each, NewShip, AcceptedFigures}
 use Rattle.ship.specs.declared.Refusal.{Refusal}
-use Rattle.ship.specs.declared.Refusal.TheVariants.{None, Length}
+use Rattle.ship.specs.declared.Refusal.TheVariants.{Length}
 use Rattle.ship.specs.declared.Refusal.TheVariants as refusal
 use Rattle.ship.specs.declared.Ship.{Ship}
 use Rattle.ship.proofs.Tests.{inside as inside_of}
@@ -45,7 +46,7 @@ use Rattle.ship.proofs.Layouts as alike
 use Rattle.ship.proofs.Editions as editions
 use Rattle.ship.proofs.Declaring.{declared_accepted, recorded_sailed}
 use Rattle.ship.proofs.Right.{numbers_accepted}
-use Rattle.ship.proofs.Order.{first_is, first_one, none}
+use Rattle.ship.proofs.Order.{first_is, first_one}
 use Rattle.ship.specs.Ends.{record_end, NarrowerRecord}
 use Rattle.ship.proofs.Figured.{figures_accepted}
 use Rattle.ship.proofs.Ends as ends
@@ -55,7 +56,8 @@ use Rattle.ship.proofs.Typed.{all_entries}
 use Rattle.fields.specs.Numbers.{Bytes}
 use Rattle.build_fields.specs.Fields.{build_from}
 use Rattle.layout.specs.Layout.{encode, ship_from, ship_in}
-use Rattle.block.specs.Answers.{length_refused, block_tests, read_refusal, read_of, loaded, write_refusal, write_of}
+use Rattle.block.specs.Answers.{length_refused, block_tests, read_refusal, unless, read_of, write_refusal, write_of}
+use Rattle.block.proofs.Trips.{record_accepted}
 use Rattle.block.proofs.Theorems as block
 use Rattle.propeller.specs.Propeller.{exactly, Speed}
 use Rattle.index.specs.Attained.{speed_of, speeds_of, lower_of, upper_of, index_of}
@@ -64,13 +66,10 @@ use Rattle.index.specs.declared.SpeedBounds.{SpeedBounds}
 use Rattle.index.proofs.Laws as law
 use Rattle.index.proofs.Editions.{bounds_under}
 use Rattle.factor.proofs.Laws.{vehicles_full}
-use Rattle.desk.specs.Answers.{answer_of, answer_of_block, number_in, lower_in, upper_in, AcceptedRecord, lower, upper, NotLightVehicles}
-use Rattle.desk.specs.declared.Answer.{Answer}
-use Rattle.desk.specs.declared.Answer.TheVariants.{Bounds, Refused}
+use Rattle.desk.specs.Answers.{Answer, answer_of, answer_of_block, refusal_number, number_in, lower_in, upper_in, AcceptedRecord, lower, upper, NotLightVehicles}
 use Rattle.desk.specs.Steps.{own_speeds, speeds_by, index_by, speeds_answer, speeds_answer_of_block, index_answer, index_answer_of_block, then}
-use Rattle.desk.specs.declared.SpeedAnswer.TheVariants as settled
 use Rattle.desk.proofs.Stepping as step
-use Rattle.desk.proofs.Answering.{refused, bounded, numbered, zero_bounded, block_accepted}
+use Rattle.desk.proofs.Answering.{numbered, zero_bounded, no_bound}
 use mathlib.Core.Bool.{Bool, true, false}
 
 -- ── Demand 1: every input has exactly one answer, by the first rule broken ──────────────────
@@ -81,62 +80,66 @@ unfolding refusal_of
 record_first s = first_is (tests false s) None
 
 -- With none the answer is the two bounds, and with any other it is that refusal and no bounds.
-pub record_bounded : (s : Ship) → refusal_of s ≡ None → answer_of s ≡ Bounds (index_of (figures s))
+pub record_bounded : (s : Ship) → refusal_of s ≡ None → answer_of s ≡ Ok (index_of (figures s))
 unfolding answer_of
-record_bounded s e = sym (bounded s e refl)
+record_bounded s e = rw e
 
-pub record_refused : (s : Ship) → (refusal_of s ≡ None → ⊥) → answer_of s ≡ Refused (refusal_of s)
+pub record_refused : (s : Ship) {r : Refusal} → refusal_of s ≡ Some r → answer_of s ≡ Err r
 unfolding answer_of
-record_refused s h = sym (refused s refl (λ e. h (none _ e)))
+record_refused s e = rw e
 
 -- So the answer's number is that of the first rule broken, and 0 exactly where there are bounds; a refusal has no bound.
-pub record_number : (s : Ship) (r : Refusal) → First (tests false s) None r → number_in (answer_of s) ≡ number_of r
+pub record_number : (s : Ship) (r : Option Refusal) → First (tests false s) None r → number_in (answer_of s) ≡ refusal_number r
 unfolding answer_of
-record_number s r f = numbered (refusal_of s) s ∙ ap number_of (first_one (record_first s) f)
+record_number s r f = numbered (refusal_of s) _ ∙ ap refusal_number (first_one (record_first s) f)
 
-pub record_zero : (s : Ship) → number_in (answer_of s) ≡ 0 ↔ (i : Index) × (answer_of s ≡ Bounds i)
+pub record_zero : (s : Ship) → number_in (answer_of s) ≡ 0 ↔ (i : Index) × (answer_of s ≡ Ok i)
 unfolding answer_of
-record_zero s = zero_bounded (refusal_of s) s
+record_zero s = zero_bounded (refusal_of s) _
 
 pub record_no_bound : (s : Ship) → (refusal_of s ≡ None → ⊥) → (lower_in (answer_of s) ≡ 0) × (upper_in (answer_of s) ≡ 0)
-record_no_bound s h = rw (record_refused s h) (refl, refl)
+unfolding answer_of
+record_no_bound s h = no_bound (refusal_of s) s h
 
 -- The same of bytes, of every length.
 pub block_first : (b : List ℕ) → First ((length_refused b, Length) ∷ block_tests b (ship_in b)) None (read_refusal b)
 unfolding read_refusal
 block_first b = first_is _ None
 
-pub block_bounded : (b : List ℕ) → read_refusal b ≡ None → answer_of_block b ≡ Bounds (index_of (figures (read_of b).ship))
+pub block_bounded : (b : List ℕ) → read_refusal b ≡ None → answer_of_block b ≡ Ok (index_of (figures (ship_in b)))
 unfolding answer_of_block
-block_bounded b e = sym (bounded _ e refl)
+block_bounded b e = rw e
 
-pub block_refused : (b : List ℕ) → (read_refusal b ≡ None → ⊥) → answer_of_block b ≡ Refused (read_refusal b)
+pub block_refused : (b : List ℕ) {r : Refusal} → read_refusal b ≡ Some r → answer_of_block b ≡ Err r
 unfolding answer_of_block
-block_refused b h = sym (refused _ refl (λ e. h (none _ e)))
+block_refused b e = rw e
 
-pub block_number : (b : List ℕ) (r : Refusal) → First ((length_refused b, Length) ∷ block_tests b (ship_in b)) None r → number_in (answer_of_block b) ≡ number_of r
+pub block_number : (b : List ℕ) (r : Option Refusal) → First ((length_refused b, Length) ∷ block_tests b (ship_in b)) None r → number_in (answer_of_block b) ≡ refusal_number r
 unfolding answer_of_block
-block_number b r f = numbered (read_refusal b) _ ∙ ap number_of (first_one (block_first b) f)
+block_number b r f = numbered (read_refusal b) _ ∙ ap refusal_number (first_one (block_first b) f)
 
-pub block_zero : (b : List ℕ) → number_in (answer_of_block b) ≡ 0 ↔ (i : Index) × (answer_of_block b ≡ Bounds i)
+pub block_zero : (b : List ℕ) → number_in (answer_of_block b) ≡ 0 ↔ (i : Index) × (answer_of_block b ≡ Ok i)
 unfolding answer_of_block
 block_zero b = zero_bounded (read_refusal b) _
 
 pub block_no_bound : (b : List ℕ) → (read_refusal b ≡ None → ⊥) → (lower_in (answer_of_block b) ≡ 0) × (upper_in (answer_of_block b) ≡ 0)
-block_no_bound b h = rw (block_refused b h) (refl, refl)
+unfolding answer_of_block
+block_no_bound b h = no_bound (read_refusal b) (ship_in b) h
 
 -- A piece of a block, or more than one, is refused with 1.
 pub not_512 : (b : List ℕ) → (length b ≡ 512 → ⊥) → number_in (answer_of_block b) ≡ 1
-not_512 b h = block_number b Length (rw (ne_eqb (length b) 512 h) given)
+not_512 b h = block_number b (Some Length) (rw (ne_eqb (length b) 512 h) given)
 
--- An accepted block is answered as its record is.
-pub block_as_record : (b : List ℕ) → read_refusal b ≡ None → answer_of_block b ≡ answer_of (read_of b).ship
-block_as_record b e = block_bounded b e ∙ sym (record_bounded _ (block_accepted b e))
+-- An accepted block is read as the record that stands in it, and answered as that is.
+pub block_read : (b : List ℕ) → read_refusal b ≡ None → read_of b ≡ Ok (ship_in b)
+block_read = block.accepted_read
+
+pub block_as_record : (b : List ℕ) → read_refusal b ≡ None → answer_of_block b ≡ answer_of (ship_in b)
+block_as_record b e = block_bounded b e ∙ sym (record_bounded _ (record_accepted b e))
 
 -- A refused write leaves the lent file as it stood.
 pub file_kept : (f : List ℕ) (n : ℕ) (s : Ship) → (write_refusal f n s ≡ None → ⊥) → write_of f n s ≡ f
-unfolding write_of
-file_kept f n s h = rw (ne_eqb (number_of (write_refusal f n s)) 0 (λ e. h (none _ e)))
+file_kept = block.refused_stands
 
 -- ── An accepted record ──────────────────────────────────────────────────────────────────────
 
@@ -205,10 +208,10 @@ pub bounds_some : {s : Ship} → AcceptedRecord s → 0 < upper s
 bounds_some t = rw (upper_is t) (law.some true (ranges_kept t))
 
 -- A ship written to a block reads back as the same ship; an accepted block written again has the same bytes.
-pub ship_back : {s : Ship} → AcceptedRecord s → read_of (encode s) ≡ loaded None s
+pub ship_back : {s : Ship} → AcceptedRecord s → read_of (encode s) ≡ Ok s
 ship_back {s} t = block.same_ship s t.entries t.none
 
-pub bytes_back : (b : List ℕ) → Bytes b → read_refusal b ≡ None → encode (read_of b).ship ≡ b
+pub bytes_back : (b : List ℕ) → Bytes b → read_refusal b ≡ None → encode (ship_in b) ≡ b
 bytes_back = block.same_bytes
 
 end_accepted : {s : Ship} (top : Bool) → AcceptedRecord s → AcceptedRecord (record_end top s)
@@ -262,9 +265,9 @@ narrowing t t' n =
 pub value_accepted : (s : Ship) (vs : List Val) → shadow ((row the_type).own_val s vs) → refusal_of s ≡ None → AcceptedRecord s
 value_accepted s vs g e = record { entries = all_entries s vs g; none = e }
 
-pub block_record_accepted : (b : List ℕ) → read_refusal b ≡ None → AcceptedRecord (read_of b).ship
-unfolding read_of ship_in ship_from build_from
-block_record_accepted b e = record { entries = record { engines = rw e; gear = rw e }; none = block_accepted b e }
+pub block_record_accepted : (b : List ℕ) → read_refusal b ≡ None → AcceptedRecord (ship_in b)
+unfolding ship_in ship_from build_from
+block_record_accepted b e = record { entries = record { engines = refl; gear = refl }; none = record_accepted b e }
 
 -- ── Ice classes: document 02, Req 01 ────────────────────────────────────────────────────────
 
@@ -322,7 +325,7 @@ module _ {s : Ship} (t : AcceptedRecord s) (most : SpeedAsRecorded (most_favoura
   unfolding index_of
   as_if_declared =
       record_bounded s t.none
-      ∙ ap₂ (λ l u. Bounds (record { lower = l; upper = u })) same_lower same_upper
+      ∙ ap₂ {C = Answer} (λ l u. Ok (record { lower = l; upper = u })) same_lower same_upper
       ∙ sym (record_bounded (declared_record s) declared_too.none)
 
 -- ── General cargo, cranes, common structural rules, layout 2: document 02, Req 03 ───────────
@@ -347,7 +350,7 @@ no_cranes s = f_l_none s.kind s
 -- A ship of types 1 to 7 with none of what layout 2 adds has the same answer in both layouts, a refusal too.
 pub same_in_both : (s : Ship) → s.particulars.kind ≤ 7 → s.particulars.build ≡ no_build → answer_of (in_layout 1 s) ≡ answer_of (in_layout 2 s)
 unfolding answer_of
-same_in_both s h e = ap₂ (λ r f. if (eqb (number_of r) 0) (Bounds (index_of f)) (Refused r)) (alike.refused_alike s h e) (alike.figures_alike s)
+same_in_both s h e = ap₂ {C = Answer} (λ r f. unless r (index_of f)) (alike.refused_alike s h e) (alike.figures_alike s)
 
 -- ── New ships, the EEDI in both editions: document 02, Req 06 ───────────────────────────────
 
@@ -414,7 +417,8 @@ unfolding answer_of figures
 first_any_class s ice first own listed =
     let edition = s.particulars.build.edition in
     ap₂
-    (λ r i. if (eqb (number_of r) 0) (Bounds i) (Refused r))
+    {C = Answer}
+    unless
     (editions.class_alike s ice listed own)
     (bounds_under (edition_of edition) (ice_of ice) (figures s) (editions.first_without edition ice first ∙ sym (editions.first_without edition s.particulars.ice first)) (λ k. refl))
 
@@ -425,7 +429,7 @@ module _ (s : Ship) (edition edition' : ℕ) (t : AcceptedRecord (in_edition edi
   unfolding figures
   one_f_m e =
       record_bounded _ t.none
-      ∙ ap Bounds (bounds_under (edition_of edition) (ice_of s.particulars.ice) (figures (in_edition edition' s)) e
+      ∙ ap {B = Answer} Ok (bounds_under (edition_of edition) (ice_of s.particulars.ice) (figures (in_edition edition' s)) e
       (λ k. vehicles_full (edition_of edition) _ _ (full k) ∙ sym (vehicles_full (edition_of edition') _ _ (full k))))
       ∙ sym (record_bounded _ t'.none)
 
@@ -465,48 +469,48 @@ one_after_the_other s = step.joined (refusal_of s) s
 
 pub one_after_the_other_block : (b : List ℕ) → then (speeds_answer_of_block b) (index_answer_of_block b) ≡ answer_of_block b
 unfolding speeds_answer_of_block index_answer_of_block answer_of_block
-one_after_the_other_block b = step.joined (read_refusal b) (read_of b).ship
+one_after_the_other_block b = step.joined (read_refusal b) (ship_in b)
 
 -- The refusals keep their order: where the record has one, the first rule broken, both steps give it, whatever is handed in.
-pub both_refused : (s : Ship) → (refusal_of s ≡ None → ⊥) → (speeds_answer s ≡ settled.Refused (refusal_of s)) × ((v : SpeedBounds) → index_answer s v ≡ Refused (refusal_of s))
+pub both_refused : (s : Ship) {r : Refusal} → refusal_of s ≡ Some r → (speeds_answer s ≡ Err r) × ((v : SpeedBounds) → index_answer s v ≡ Err r)
 unfolding speeds_answer index_answer
-both_refused s h = step.both_refused (refusal_of s) s h
+both_refused s e = step.both_refused s e
 
 -- Where it has none the first gives its speed bounds, and the second the index from these; handed any others it refuses with 13.
-pub speed_settled : (s : Ship) → refusal_of s ≡ None → speeds_answer s ≡ settled.Speeds (own_speeds s)
+pub speed_settled : (s : Ship) → refusal_of s ≡ None → speeds_answer s ≡ Ok (own_speeds s)
 unfolding speeds_answer
-speed_settled s e = sym (step.speed_settled s e refl)
+speed_settled s e = rw e
 
-pub index_own : (s : Ship) → refusal_of s ≡ None → index_answer s (own_speeds s) ≡ Bounds (index_of (figures s))
+pub index_own : (s : Ship) → refusal_of s ≡ None → index_answer s (own_speeds s) ≡ Ok (index_of (figures s))
 unfolding index_answer
 index_own s e = step.index_own s e
 
-pub index_other : (s : Ship) (v : SpeedBounds) → refusal_of s ≡ None → (v ≡ own_speeds s → ⊥) → index_answer s v ≡ Refused refusal.Speed
+pub index_other : (s : Ship) (v : SpeedBounds) → refusal_of s ≡ None → (v ≡ own_speeds s → ⊥) → index_answer s v ≡ Err refusal.Speed
 unfolding index_answer
 index_other s v e h = step.index_other s v e h
 
 -- So no index ever comes from another ship's speed.
-pub no_other_index : (s : Ship) (v : SpeedBounds) (i : Index) → index_answer s v ≡ Bounds i → (v ≡ own_speeds s) × (answer_of s ≡ Bounds i)
+pub no_other_index : (s : Ship) (v : SpeedBounds) (i : Index) → index_answer s v ≡ Ok i → (v ≡ own_speeds s) × (answer_of s ≡ Ok i)
 unfolding index_answer answer_of
 no_other_index s = step.no_other_index (refusal_of s) s
 
-pub no_other_index_block : (b : List ℕ) (v : SpeedBounds) (i : Index) → index_answer_of_block b v ≡ Bounds i → (v ≡ own_speeds (read_of b).ship) × (answer_of_block b ≡ Bounds i)
+pub no_other_index_block : (b : List ℕ) (v : SpeedBounds) (i : Index) → index_answer_of_block b v ≡ Ok i → (v ≡ own_speeds (ship_in b)) × (answer_of_block b ≡ Ok i)
 unfolding index_answer_of_block answer_of_block
-no_other_index_block b = step.no_other_index (read_refusal b) (read_of b).ship
+no_other_index_block b = step.no_other_index (read_refusal b) (ship_in b)
 
 -- An accepted block is answered as its record is, in both steps, and a refused one by its refusal.
 pub steps_as_record : (b : List ℕ) → read_refusal b ≡ None
-    → (speeds_answer_of_block b ≡ speeds_answer (read_of b).ship) × ((v : SpeedBounds) → index_answer_of_block b v ≡ index_answer (read_of b).ship v)
+    → (speeds_answer_of_block b ≡ speeds_answer (ship_in b)) × ((v : SpeedBounds) → index_answer_of_block b v ≡ index_answer (ship_in b) v)
 unfolding speeds_answer_of_block speeds_answer index_answer_of_block index_answer
 steps_as_record b e =
-    let s = (read_of b).ship in
-    let k = e ∙ sym (block_accepted b e) in
+    let s = ship_in b in
+    let k = e ∙ sym (record_accepted b e) in
     (ap (λ r. speeds_by r s) k, λ v. ap (λ r. index_by r s v) k)
 
-pub steps_refused : (b : List ℕ) → (read_refusal b ≡ None → ⊥)
-    → (speeds_answer_of_block b ≡ settled.Refused (read_refusal b)) × ((v : SpeedBounds) → index_answer_of_block b v ≡ Refused (read_refusal b))
+pub steps_refused : (b : List ℕ) {r : Refusal} → read_refusal b ≡ Some r
+    → (speeds_answer_of_block b ≡ Err r) × ((v : SpeedBounds) → index_answer_of_block b v ≡ Err r)
 unfolding speeds_answer_of_block index_answer_of_block
-steps_refused b h = step.both_refused (read_refusal b) (read_of b).ship h
+steps_refused b e = step.both_refused (ship_in b) e
 
 module _ {s : Ship} (t : AcceptedRecord s) where
   -- Each pair encloses the exact speed of its own ship, in millionths of a knot, and differs by at most a millionth of the upper one plus two.

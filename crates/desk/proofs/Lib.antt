@@ -1,5 +1,4 @@
 pub mod Answering
 pub mod Stepping
-pub mod Working
 pub mod Demands
 pub mod Figures

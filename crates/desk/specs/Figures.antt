@@ -1,6 +1,6 @@
 -- The figures worked by hand that are proved: one list of them, and what each says.
 -- Assumes nothing.
-use Rattle.std.specs.Prelude.{ℕ, ◌*◌, ◌≡◌, List, [], ◌∷◌}
+use Rattle.std.specs.Prelude.{ℕ, ◌*◌, ◌≡◌, List, [], ◌∷◌, Ok}
 use Rattle.exact.specs.Ship.{Deadweight, GrossTonnage, Kind, container, Crane}
 use Rattle.formula.specs.Words.{whole}
 use Rattle.exact.specs.Index.{P_ME, by_rule, Capacity, light_cargo, light_vehicles}
@@ -10,7 +10,6 @@ use Rattle.ship.specs.Ends.{just}
 use Rattle.ship.specs.Sample.{reported, S, S_in}
 use Rattle.factor.specs.Factor.{lifted_of}
 use Rattle.desk.specs.Answers.{answer_of}
-use Rattle.desk.specs.declared.Answer.TheVariants.{Bounds}
 
 -- A figure: the desk's two bounds of a ship; P_ME of MCR and limit in hundredths and P_AE of total MCR in thousandths of a kW;
 -- the Capacity of a type and deadweight in t; what cranes count for, in 10^-6 t; and f_c 1 of a bulk carrier's deadweight and cargo volume, of a vehicle carrier's
@@ -26,7 +25,7 @@ pub data Figure : Type 0 where
 
 -- What it says.
 abbrev pub Holds : Figure → Type 0
-Holds (bounds_of s lower upper) = answer_of s ≡ Bounds (record { lower = lower; upper = upper })
+Holds (bounds_of s lower upper) = answer_of s ≡ Ok (record { lower = lower; upper = upper })
 Holds (P_ME_of mcr limit n) = P_ME mcr limit ≡ n
 Holds (P_AE_of mcr n) = by_rule mcr ≡ n
 Holds (Capacity_of kind dwt n) = Capacity kind dwt ≡ 100 * n

@@ -1,6 +1,6 @@
 -- The laws of f_c and f_l by name: what their users may know of them.
 -- Assumes nothing.
-use Prim.Native.Nat.{ℕ, zero, suc, ◌*◌, ◌^◌, ◌≤◌, ◌<◌}
+use Prim.Native.Nat.{ℕ, ◌*◌, ◌^◌, ◌≤◌, ◌<◌}
 use mathlib.Core.Path.{◌≡◌, refl, ap}
 use mathlib.Core.Bool.{Bool, true, false}
 use native.Mathlib.Nat.{le_trans, mul-le-mul_left, suc-pred-eq_of_pos}
@@ -17,12 +17,10 @@ use Rattle.formula.proofs.Fractions.{◌≈◌, lies_refl, lies-≈}
 use Rattle.formula.proofs.Formulas.{enclosed-≈, enclosed_wider, enclosed_lit, enclosed_product}
 use Rattle.formula.proofs.Powers.{inverse}
 use Rattle.exact.proofs.Rules.{light_cargo_none, light_cargo_some, light_vehicles_none, light_vehicles_some, under}
-use Rattle.ship.specs.Figures.{kinds, kind_of, last_edition, edition_of}
 use Rattle.ship.specs.Accepted.{Within, Each, Geared, AcceptedFigures}
-use Rattle.ship.proofs.Numbered.{by_number}
 use Rattle.power.specs.declared.Bounds.{Bounds}
 use Rattle.power.specs.Power.{Raisable, one, power_of}
-use Rattle.factor.specs.Factor.{cargo_factor, vehicles_factor, vehicles_by, cranes_factor, factor_by, Factored}
+use Rattle.factor.specs.Factor.{cargo_factor, vehicles_factor, vehicles_by, factor_by, Factored}
 use Rattle.factor.proofs.Inverses.{turned, above_one}
 use Rattle.factor.proofs.Lifting.{cranes_factored}
 
@@ -204,42 +202,3 @@ factor_under container edition ice s h = refl
 factor_under refrigerated edition ice s h = refl
 factor_under combination edition ice s h = refl
 factor_under general edition ice s h = refl
-
--- ── Editions and types by number ────────────────────────────────────────────────────────────
-
-pub of_new : (edition : ℕ) (dwt : Deadweight) (gross : GrossTonnage) → edition ≤ last_edition → (edition ≡ 0 → ⊥) → one ≡ vehicles_by (edition_of edition) dwt gross
-unfolding vehicles_by
-of_new zero dwt gross h n = absurd (n refl)
-of_new (suc zero) dwt gross h n = refl
-of_new (suc (suc zero)) dwt gross h n = refl
-of_new (suc (suc (suc edition))) dwt gross h n = absurd (omega (arith, h))
-
-pub of_EEXI : (edition : ℕ) (dwt : Deadweight) (gross : GrossTonnage) → edition ≡ 0 → vehicles_factor dwt gross ≡ vehicles_by (edition_of edition) dwt gross
-unfolding vehicles_by
-of_EEXI edition dwt gross h = rw h
-
-module _ (s : Particulars) (k : ℕ) where
-  pub of_bulk : k ≡ 1 → cargo_factor s.deadweight s.cargo ≡ factor_by (kind_of k) s
-  unfolding factor_by
-  of_bulk e = rw e
-
-  pub of_vehicle : k ≡ 7 → vehicles_by s.edition s.deadweight s.gross ≡ factor_by (kind_of k) s
-  unfolding factor_by
-  of_vehicle e = rw e
-
-  pub of_general : k ≡ 8 → cranes_factor s.deadweight s.cranes ≡ factor_by (kind_of k) s
-  unfolding factor_by
-  of_general e = rw e
-
-  pub of_others : Within 2 6 k → one ≡ factor_by (kind_of k) s
-  unfolding factor_by
-  of_others w =
-      by_number
-      (λ k. Within 2 6 k → one ≡ factor_by (kind_of k) s)
-      (length kinds) (
-        (((((((tt, λ h. absurd (omega (arith, h.least))), λ h. refl), λ h. refl), λ h. refl), λ h. refl), λ h. refl), λ h. absurd (omega (arith, h.most))),
-        λ h. absurd (omega (arith, h.most)),
-      )
-      k
-      (omega arith)
-      w

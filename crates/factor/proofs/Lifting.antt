@@ -1,13 +1,15 @@
 -- f_l of a general cargo ship: the cranes' sum, and the pair that encloses the factor.
 -- Assumes nothing.
 use Prim.Native.Nat.{ℕ, zero, suc, ◌+◌, ◌*◌, ◌/◌, ◌^◌, ◌≤◌, ◌<◌}
-use mathlib.Core.Path.{◌≡◌}
+use mathlib.Core.Path.{◌≡◌, refl}
+use Rattle.std.specs.Prelude.{map}
+use Rattle.std.specs.List.{All, sum_by}
+use Rattle.std.proofs.lemmas.List.Sums.{sum_by-cons}
 use mathlib.Core.List.{List, [], ◌∷◌}
 use native.Mathlib.Nat.{mul-le-mul, suc-pred-eq_of_pos}
-use native.Mathlib.Numerals.{add-one}
 use native.Mathlib.Omega.{arith}
 use lib.Dec.{lit<, lit≤}
-use lib.ListN.{length, get_or}
+use lib.ListN.{length, length-map}
 use Rattle.formula.specs.Formula.{◌//◌, Formula, lit, ◌⊕◌, ◌⊘◌, Enclosed}
 use Rattle.formula.specs.Words.{whole}
 use Rattle.exact.specs.Ship.{Deadweight, Crane, general}
@@ -16,8 +18,7 @@ use Rattle.formula.proofs.Fractions.{over-≼}
 use Rattle.formula.proofs.Formulas.{enclosed-≈, enclosed_wider, enclosed_lit, enclosed_sum, enclosed_product, enclosed_quotient}
 use Rattle.number.specs.Division.{ceil_of, Divisible}
 use Rattle.number.proofs.Divisions.{floor_is, ceil_is, floor_greatest, ceil_least, floor_ceil}
-use Rattle.ship.specs.Record.{no_crane}
-use Rattle.ship.specs.Figures.{cranes_of}
+use Rattle.ship.specs.Figures.{crane_of}
 use Rattle.ship.specs.Accepted.{Within, Each, no_more, one_more, Geared}
 use Rattle.ship.specs.declared.Crane as entry
 use Rattle.power.specs.Numbers.{unit}
@@ -39,21 +40,26 @@ unfolding lifted_of
 lifted_most no_more = omega arith
 lifted_most (one_more {x = c} h hs) = omega (arith, mul-le-mul h.swl.most h.reach.most, lifted_most hs)
 
-pub lifted_none : (cs : List entry.Crane) → lifted_of (cranes_of 0 cs) ≡ 0
-unfolding lifted_of cranes_of
-lifted_none cs = omega arith
+-- What an entry counts for, and the sum of all.
+abbrev pub counted : entry.Crane → ℕ
+counted c = lifted_of (crane_of c ∷ [])
 
--- One crane more.
-grown : (cs : List entry.Crane) (i : ℕ) → i < length cs
-    → lifted_of (cranes_of (suc i) cs) ≡ lifted_of (cranes_of i cs) + (519 * ((get_or cs i no_crane).swl * (get_or cs i no_crane).reach) + 32110000)
-unfolding lifted_of cranes_of
-grown [] i h = absurd (omega arith)
-grown (c ∷ cs) zero h = omega arith
-grown (c ∷ cs) (suc i) h = omega (arith, grown cs i (omega arith))
+pub lifted_sum : (cs : List entry.Crane) → sum_by counted cs ≡ lifted_of (map crane_of cs)
+unfolding lifted_of
+lifted_sum [] = refl
+lifted_sum (c ∷ cs) = omega (arith, sum_by-cons counted c cs, lifted_sum cs)
 
-pub lifted_step : (cs : List entry.Crane) (i : ℕ) → i < length cs
-    → lifted_of (cranes_of (i + 1) cs) ≡ lifted_of (cranes_of i cs) + (519 * ((get_or cs i no_crane).swl * (get_or cs i no_crane).reach) + 32110000)
-lifted_step cs i h = rw add-one (grown cs i h)
+each_geared : (cs : List entry.Crane) → All (λ c. Geared (crane_of c)) cs → Each Geared (map crane_of cs)
+each_geared [] h = no_more
+each_geared (c ∷ cs) h = one_more (h 0 c (omega arith)) (each_geared cs (λ k d l. h (suc k) d (omega arith)))
+
+pub all_geared : (cs : List entry.Crane) → Each Geared (map crane_of cs) → All (λ c. Geared (crane_of c)) cs
+all_geared [] h k d l = absurd (omega arith)
+all_geared (c ∷ cs) (one_more g gs) zero d l = g
+all_geared (c ∷ cs) (one_more g gs) (suc k) d l = all_geared cs gs k d (omega arith)
+
+pub lifted_few : (cs : List entry.Crane) → length cs ≤ 8 → All (λ c. Geared (crane_of c)) cs → lifted_of (map crane_of cs) ≤ 415456880000
+lifted_few cs few h = let n = length-map cs crane_of in omega (arith, lifted_most (each_geared cs h), n, few)
 
 -- ── The factor ──────────────────────────────────────────────────────────────────────────────
 

@@ -1,18 +1,20 @@
 // f_c, the capacity factor of light cargoes, and f_l, that of cranes, enclosed between two whole numbers of units of 2^-30.
 #![tactic(auto)]
 
-ghost use Rattle.std.specs.Prelude.{◌≡◌, ℕ, ◌≤◌, ◌<◌, get_or};
-ghost use Rattle.ship.specs.Record.{no_crane};
-ghost use Rattle.ship.specs.Figures.{deadweight_of, last_edition, edition_of, crane_of, cranes_of, figures};
+ghost use Rattle.std.specs.Prelude.{◌≡◌, ◌≤◌, [], ◌∷◌, length, map};
+ghost use Rattle.std.specs.List.{All};
+ghost use Rattle.ship.specs.Figures.{deadweight_of, crane_of, figures};
+ghost use Rattle.ship.specs.Kinds.{under};
 ghost use Rattle.ship.specs.Accepted.{Within, Geared};
-ghost use Rattle.ship.specs.Rules.{refusal_of};
-ghost use Rattle.ship.specs.declared.Refusal.TheVariants as refusal;
 ghost use Rattle.power.specs.Power.{one};
 ghost use Rattle.factor.specs.Factor.{cargo_factor, vehicles_factor, vehicles_by, lifted_of, cranes_factor, factor_by};
 
 use power::Bounds;
-use ship::{Crane, Deadweight, GrossTonnage, Ship};
+use ship::accepted::Accepted;
+use ship::kinds::{Edition, ShipType};
+use ship::{Crane, Deadweight, GrossTonnage};
 
+// 1, in units of 2^-30, at both ends. (As speed's `exactly`, of this one number: `power` makes no bounds of a number.)
 fn exactly_one() -> Bounds
     ensures { result ≡ one }
 {
@@ -23,6 +25,7 @@ fn exactly_one() -> Bounds
 }
 
 // A bulk carrier's: R to the power -0.15, where R = deadweight / volume is below 0.55.
+#[tactic(auto, unfolding(crate::specs::Factor::cargo_factor))]
 fn light_cargo(deadweight: Deadweight, cargo: u64) -> Bounds
     requires { Within 100 600000 deadweight.tonnes × Within 100 1000000 cargo }
     ensures { result ≡ cargo_factor (deadweight_of deadweight) cargo }
@@ -35,7 +38,9 @@ fn light_cargo(deadweight: Deadweight, cargo: u64) -> Bounds
     }
 }
 
-// A vehicle carrier's: (R / 0.35) to the power -0.8, where R = deadweight / gross tonnage is below 0.35.
+// A vehicle carrier's: (R / 0.35) to the power -0.8, where R = deadweight / gross tonnage is below 0.35. (Beside `light_cargo`: fraction, limit and
+// exponent differ, each from its own definition, so one function of both would have six parameters.)
+#[tactic(auto, unfolding(crate::specs::Factor::vehicles_factor))]
 fn light_vehicles(deadweight: Deadweight, gross: GrossTonnage) -> Bounds
     requires { Within 100 600000 deadweight.tonnes × Within 100 400000 gross.gt }
     ensures { result ≡ vehicles_factor (deadweight_of deadweight) (record { gt = gross.gt }) }
@@ -49,40 +54,42 @@ fn light_vehicles(deadweight: Deadweight, gross: GrossTonnage) -> Bounds
     }
 }
 
-// A vehicle carrier's, which only the EEXI has. Rule 19 lists the editions.
-fn vehicles(edition: u64, deadweight: Deadweight, gross: GrossTonnage) -> Bounds
-    requires { (edition ≤ last_edition) × Within 100 600000 deadweight.tonnes × Within 100 400000 gross.gt }
-    ensures { result ≡ vehicles_by (edition_of edition) (deadweight_of deadweight) (record { gt = gross.gt }) }
+// A vehicle carrier's, which only the EEXI has.
+#[tactic(auto, unfolding(crate::specs::Factor::vehicles_by))]
+fn vehicles(edition: Edition, deadweight: Deadweight, gross: GrossTonnage) -> Bounds
+    requires { Within 100 600000 deadweight.tonnes × Within 100 400000 gross.gt }
+    ensures { result ≡ vehicles_by (under edition) (deadweight_of deadweight) (record { gt = gross.gt }) }
 {
-    if edition != 0 {
-        return exactly_one();
+    match edition {
+        Edition::Eexi => light_vehicles(deadweight, gross),
+        Edition::EediFirst | Edition::EediAmended => exactly_one(),
     }
-    light_vehicles(deadweight, gross)
 }
 
-// What the cranes that are used count for, in 10^-6 t. Rule 18 bounds them.
-fn lifted(used: u64, gear: [Crane; 8]) -> u64
-    requires { (used ≤ 8) × ((i : ℕ) → i < used → Geared (crane_of (get_or gear i no_crane))) }
-    ensures { (result ≡ lifted_of (cranes_of used gear)) × (result ≤ 415456880000) }
+// What a crane counts for, in 10^-6 t, and what all of them do. Rule 18 bounds them.
+#[tactic(auto, unfolding(crate::specs::Factor::lifted_of))]
+fn lifts(c: &Crane) -> u64
+    requires { Geared (crane_of c.now) }
+    ensures { result ≡ lifted_of (crane_of c.now ∷ []) }
 {
-    let n = used as usize;
-    let mut sum: u64 = 0;
-    let mut i: usize = 0;
-    while i < n {
-        let c = gear[i];
-        sum += 519 * (c.swl * c.reach);
-        i += 1;
-    }
-    sum + 32110000 * used
+    519 * (c.swl * c.reach) + 32110000
 }
 
-// A general cargo ship's f_l: Capacity and what her cranes count for, over Capacity.
-fn cranes(deadweight: Deadweight, used: u64, gear: [Crane; 8]) -> Bounds
-    requires { Within 100 600000 deadweight.tonnes × (used ≤ 8) × ((i : ℕ) → i < used → Geared (crane_of (get_or gear i no_crane))) }
-    ensures { result ≡ cranes_factor (deadweight_of deadweight) (cranes_of used gear) }
+fn lifted(cranes: &[Crane]) -> u64
+    requires { (length cranes.now ≤ 8) × All (λ c. Geared (crane_of c)) cranes.now }
+    ensures { (result ≡ lifted_of (map crane_of cranes.now)) × (result ≤ 415456880000) }
+{
+    cranes.iter().map(|c| lifts(c)).sum()
+}
+
+// A general cargo ship's f_l: Capacity and what her cranes count for, over Capacity. (Field by field: neither `power` nor `number` stands on the
+// other, so no crate may have the `From`.)
+fn cranes_over(deadweight: Deadweight, cranes: &[Crane]) -> Bounds
+    requires { Within 100 600000 deadweight.tonnes × (length cranes.now ≤ 8) × All (λ c. Geared (crane_of c)) cranes.now }
+    ensures { result ≡ cranes_factor (deadweight_of deadweight) (map crane_of cranes.now) }
 {
     let d = deadweight.tonnes * 1000000;
-    let n = d + lifted(used, gear);
+    let n = d + lifted(cranes);
     let f = number::division::both_scaled(n, d, 32768, 2);
     Bounds {
         lo: f.down,
@@ -90,21 +97,19 @@ fn cranes(deadweight: Deadweight, used: u64, gear: [Crane; 8]) -> Bounds
     }
 }
 
-// f_c times f_l of a record that rules 3 to 19 leave.
-pub fn factor(s: Ship) -> Bounds
-    requires { refusal_of s ≡ refusal.None }
-    ensures { result ≡ factor_by (figures s).ship.kind (figures s).ship }
+// f_c times f_l of an accepted record.
+pub fn factor(a: &Accepted) -> Bounds
+    ensures { let s = (figures a.now.ship).ship in result ≡ factor_by s.kind s }
 {
-    let p = s.particulars;
-    let kind = p.kind;
-    let deadweight = p.deadweight;
-    let gross = p.gross;
-    let gear = p.build.gear;
-    match kind {
-        1 => light_cargo(deadweight, p.cargo),
-        2..=6 => exactly_one(),
-        7 => vehicles(p.build.edition, deadweight, gross),
-        8 => cranes(deadweight, p.build.cranes, gear),
-        _ => Bounds { lo: 0, hi: 0 },
+    let p = &a.ship.particulars;
+    match a.kind() {
+        ShipType::Bulk => light_cargo(p.deadweight, p.cargo),
+        ShipType::Vehicle => vehicles(a.edition(), p.deadweight, p.gross),
+        ShipType::General => cranes_over(p.deadweight, a.cranes()),
+        ShipType::Gas
+        | ShipType::Tanker
+        | ShipType::Container
+        | ShipType::Refrigerated
+        | ShipType::Combination => exactly_one(),
     }
 }

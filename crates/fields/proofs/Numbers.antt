@@ -1,6 +1,8 @@
 -- Laws of little-endian numbers, once over the width and the place.
 -- Assumes nothing.
-use Rattle.std.proofs.Common.{◌≡◌, ℕ, zero, suc, ◌+◌, ◌-◌, ◌*◌, ◌/◌, ◌%◌, ◌^◌, ◌<◌, ◌≤◌, Bool, true, false, ◌&&◌, eqb, List, [], ◌∷◌, ◌++◌, length, get_or, take, drop, set, sym, refl, ap, ◌∙◌, ap₂, append_assoc, append-nil, add-one, arith, lit<, length-drop, drop_of_length-le, length-take-le, take_all, drop-cons, drop-drop, take-suc-set, take-add, ne_eqb}
+use Rattle.std.proofs.Common.{◌≡◌, ℕ, zero, suc, ◌+◌, ◌-◌, ◌*◌, ◌/◌, ◌%◌, ◌^◌, ◌<◌, ◌≤◌, Bool, true, false, ◌&&◌, eqb, List, [], ◌∷◌, ◌++◌, length, get_or, take, drop, reverse, set, sym, refl, ap, ◌∙◌, ap₂, append_assoc, append-nil, add-one, arith, lit<, length-drop, length-take-le, take_all, drop-cons, drop-drop, take-suc-set, take-add, ne_eqb}
+use Rattle.std.proofs.lemmas.List.{length-reverse, get_or-reverse, get_or-take, get_or-drop}
+use Rattle.std.proofs.lemmas.Grind.{get_or_default_zero}
 use native.Mathlib.Nat.{pow-succ', pow-le-pow_right}
 use Rattle.fields.specs.Numbers.{bytes_of, value_of, number_at, Bytes}
 
@@ -45,12 +47,14 @@ bytes_value (x ∷ xs) h =
     let r : (x + 256 * value_of xs) % 256 ≡ x = omega arith in
     ap₂ {C = List ℕ} (λ y ys. y ∷ ys) r (ap (bytes_of (length xs)) q ∙ bytes_value xs h.1)
 
+pub field_length : (b : List ℕ) (at w : ℕ) → at + w ≤ length b → length (take w (drop at b)) ≡ w
+field_length b at w room = length-take-le w (drop at b) (simp length-drop (omega arith))
+
 pub bytes_number : (b : List ℕ) (at w : ℕ) → Bytes b → at + w ≤ length b → bytes_of w (number_at b at w) ≡ take w (drop at b)
 unfolding number_at
 bytes_number b at w h k =
     let f = take w (drop at b) in
-    let m : w ≤ length (drop at b) = simp length-drop (omega arith) in
-    let n : length f ≡ w = length-take-le w (drop at b) m in
+    let n : length f ≡ w = field_length b at w k in
     rw n at (bytes_value f (bytes_take w (drop at b) (bytes_drop at b h)))
 
 -- ── Read from the highest byte down ─────────────────────────────────────────────────────────
@@ -77,27 +81,35 @@ pub number_small : (b : List ℕ) (at w : ℕ) → Bytes b → at + w ≤ length
 unfolding number_at
 number_small b at w h k m =
     let f = take w (drop at b) in
-    let n : length f ≡ w = length-take-le w (drop at b) (simp length-drop (omega arith)) in
+    let n : length f ≡ w = field_length b at w k in
     let l : length f ≤ 7 = omega arith in
     let p : 256 ^ length f ≤ 256 ^ 7 = pow-le-pow_right (lit< tt) l in
     omega (arith, value_below f (bytes_take w (drop at b) (bytes_drop at b h)))
 
--- One byte more of a number that is read from its highest byte down.
-module _ (b : List ℕ) (at w left n : ℕ) (more : 0 < left) (h : left ≤ w) (k : at + w ≤ length b) (e : n ≡ number_at b (at + left) (w - left)) where
-  pub number_again : n * 256 + get_or b (at + (left - 1)) 0 ≡ number_at b (at + (left - 1)) (w - (left - 1))
+-- The byte that has k of its field's w behind it.
+pub byte_before : (b : List ℕ) (at w k x : ℕ) → at + w ≤ length b
+    → (k < length (reverse (take w (drop at b)))) × (x ≡ get_or (reverse (take w (drop at b))) k x)
+    → (k < w) × (x ≡ get_or b (at + (w - 1 - k)) 0)
+byte_before b at w k x room (h, e) =
+    let f = take w (drop at b) in
+    let n : length f ≡ w = field_length b at w room in
+    let m : k < w = rw (length-reverse f, n) at h in
+    let d : get_or (reverse f) k x ≡ get_or (reverse f) k 0 = get_or_default_zero (reverse f) k x h in
+    (m, e ∙ d ∙ rw (get_or-reverse f k 0 (omega arith), n, get_or-take w (drop at b) (w - 1 - k) 0 (omega arith), get_or-drop at b (w - 1 - k) 0))
+
+-- One byte more of a number that is read from its highest byte down: n stands in the last k of its w bytes.
+module _ (b : List ℕ) (at w k n : ℕ) (more : k < w) (room : at + w ≤ length b) (e : n ≡ number_at b (at + (w - k)) k) where
+  pub number_again : n * 256 + get_or b (at + (w - 1 - k)) 0 ≡ number_at b (at + (w - (k + 1))) (k + 1)
   number_again =
-      let p : at + (left - 1) + 1 ≡ at + left = omega arith in
-      let q : w - (left - 1) ≡ suc (w - left) = omega arith in
-      rw q (omega (arith, rw p at (number_step b (at + (left - 1)) (w - left) (omega arith))))
+      let here = at + (w - 1 - k) in
+      let p : here + 1 ≡ at + (w - k) = omega arith in
+      let q : at + (w - (k + 1)) ≡ here = omega arith in
+      rw (q, add-one k) (omega (arith, rw p at (number_step b here k (omega arith))))
 
   pub number_room : Bytes b → w ≤ 8 → n < 2 ^ 56
-  number_room bs m = rw e (number_small b (at + left) (w - left) bs (omega arith) (omega arith))
+  number_room bs m = rw e (number_small b (at + (w - k)) k bs (omega arith) (omega arith))
 
 -- ── Zeros, byte by byte ─────────────────────────────────────────────────────────────────────
-
-value_drop : (xs : List ℕ) (i : ℕ) → i < length xs → value_of (drop i xs) ≡ get_or xs i 0 + 256 * value_of (drop (i + 1) xs)
-unfolding value_of
-value_drop xs i h = rw (drop-cons xs i 0, add-one)
 
 eqb_sum : (x y : ℕ) → eqb (x + 256 * y) 0 ≡ eqb x 0 && eqb y 0
 eqb_sum zero zero = refl
@@ -108,18 +120,12 @@ and_assoc : (a b c : Bool) → a && (b && c) ≡ a && b && c
 and_assoc true b c = refl
 and_assoc false b c = refl
 
-and_true : (a : Bool) → a && true ≡ a
-and_true true = refl
-and_true false = refl
-
-pub zero_step : (z : Bool) (xs : List ℕ) (i : ℕ) → i < length xs
-    → z && eqb (value_of (drop i xs)) 0 ≡ z && eqb (get_or xs i 0) 0 && eqb (value_of (drop (i + 1) xs)) 0
-zero_step z xs i h =
-    rw (value_drop xs i h, eqb_sum (get_or xs i 0) (value_of (drop (i + 1) xs))) (and_assoc z (eqb (get_or xs i 0) 0) (eqb (value_of (drop (i + 1) xs)) 0))
-
-pub zero_end : (z : Bool) (xs : List ℕ) (i : ℕ) → length xs ≤ i → z && eqb (value_of (drop i xs)) 0 ≡ z
+-- With one byte more behind.
+pub zero_again : (xs : List ℕ) (x : ℕ) → eqb (value_of (xs ++ x ∷ [])) 0 ≡ eqb (value_of xs) 0 && eqb x 0
 unfolding value_of
-zero_end z xs i h = rw (drop_of_length-le xs h) (and_true z)
+zero_again [] x = ap (λ n. eqb n 0) (omega arith)
+zero_again (y ∷ xs) x =
+    rw (eqb_sum y (value_of (xs ++ x ∷ [])), zero_again xs x, eqb_sum y (value_of xs)) (and_assoc (eqb y 0) (eqb (value_of xs) 0) (eqb x 0))
 
 -- Where a number is 0, so are its bytes in front and those behind.
 zero_parts : (xs ys : List ℕ) → value_of (xs ++ ys) ≡ 0 → (value_of xs ≡ 0) × (value_of ys ≡ 0)

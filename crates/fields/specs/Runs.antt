@@ -14,7 +14,7 @@ unfoldable pub numbers_at : List ℕ → ℕ → List ℕ → List ℕ
 numbers_at b at [] = []
 numbers_at b at (w ∷ ws) = number_at b at w ∷ numbers_at b (at + w) ws
 
-unfoldable pub total : List ℕ → ℕ
+abbrev pub total : List ℕ → ℕ
 total [] = 0
 total (w ∷ ws) = w + total ws
 

@@ -4,7 +4,7 @@
 
 ghost use Rattle.std.specs.Prelude.{◌≡◌, ◌+◌, ◌≤◌, length, ◌==◌};
 ghost use Rattle.fields.specs.Numbers.{bytes_of, value_of, number_at};
-ghost use Rattle.fields.specs.Runs.{total, pack};
+ghost use Rattle.fields.specs.Runs.{total, widths_of, packed};
 ghost use Rattle.fields.specs.Checks.{sums};
 
 #[derive(Drop)]
@@ -20,27 +20,20 @@ pub fn check_sums(bytes: &[u8]) -> Sums
 {
     let mut a: u16 = 1;
     let mut b: u16 = (bytes.len() % 65536) as u16;
-    let mut i = 0;
-    while i < bytes.len() {
+    for (i, byte) in bytes.iter().enumerate() {
         let times = ((bytes.len() - i) % 65536) as u32;
-        a = std::num::wrapping_add_u16(a, bytes[i] as u16);
-        b = std::num::wrapping_add_u16(b, (times * (bytes[i] as u32) % 65536) as u16);
-        i += 1;
+        a = a.wrapping_add(u16::from(*byte));
+        b = b.wrapping_add((times * u32::from(*byte) % 65536) as u16);
     }
     Sums { a, b }
 }
 
-// Whether every byte is 0. No early way out: a loop without branches runs many bytes at a time.
+// Whether every byte is 0. No early way out: a fold without branches runs many bytes at a time (`all`, tried, takes some 80 times as
+// long over a block's zeros).
 pub fn all_zero(bytes: &[u8]) -> bool
     ensures { result ≡ (value_of bytes.now == 0) }
 {
-    let mut zero = true;
-    let mut i = 0;
-    while i < bytes.len() {
-        zero = zero & (bytes[i] == 0);
-        i += 1;
-    }
-    zero
+    bytes.iter().fold(true, |zero, byte| zero & (*byte == 0))
 }
 
 // The number in the `width` bytes from `at`, lowest first. A block has 512 bytes wherever a field is read: rule 1.
@@ -49,11 +42,8 @@ pub fn number_at(bytes: &[u8], at: usize, width: usize) -> u64
     ensures { result ≡ number_at bytes.now at width }
 {
     let mut n: u64 = 0;
-    let mut left = width;
-    while 0 < left {
-        left -= 1;
-        let byte = bytes[at + left] as u64;
-        n = n * 256 + byte;
+    for byte in bytes[at..at + width].iter().rev() {
+        n = n * 256 + u64::from(*byte);
     }
     n
 }
@@ -63,27 +53,22 @@ pub fn put(bytes: &mut [u8], number: u64)
     ensures { bytes.new ≡ bytes_of (length bytes.old) number }
 {
     let mut rest = number;
-    let mut i = 0;
-    while i < bytes.len() {
-        bytes[i] = (rest % 256) as u8;
+    for byte in bytes.iter_mut() {
+        *byte = (rest % 256) as u8;
         rest = rest / 256;
-        i += 1;
     }
 }
 
-// The bytes become the numbers', each at its width, one after the other. The block's table has a width for each number, and a part of
-// just their length.
-pub fn put_run(part: &mut [u8], widths: &[usize], numbers: &[u64])
-    requires widths_len { length widths.now ≡ length numbers.now }
-    requires widths_value { total widths.now ≡ length part.old }
-    ensures { part.new ≡ pack widths.now numbers.now }
+// The bytes become the fields', each a width and a number, one after the other; the place is counted along, since the widths differ. A part has
+// just the length of its fields in the block's table.
+pub fn put_run(part: &mut [u8], fields: &[(usize, u64)])
+    requires { total (widths_of fields.now) ≡ length part.old }
+    ensures { part.new ≡ packed fields.now }
 {
     let mut at = 0;
-    let mut i = 0;
-    while i < widths.len() {
-        let end = at + widths[i];
-        put(&mut part[at..end], numbers[i]);
+    for (width, number) in fields {
+        let end = at + *width;
+        put(&mut part[at..end], *number);
         at = end;
-        i += 1;
     }
 }

@@ -1,7 +1,7 @@
 // Reads the ship of a block and writes it into a file, for each case of standard input. Prints what reading answers, what writing
 // answers, each the refusal's number or 0, and the two check sums of the file's bytes as they then are.
 // A case is the lengths of the piece that is read and of the file in two bytes each, a block number in eight, and the bytes of
-// both. A piece that is refused has the empty record, and that is then the ship.
+// both. For a piece that is refused the ship is the empty record.
 // tests/blocks.py makes the cases and what is to be printed.
 
 #![tactic(auto)]
@@ -12,7 +12,8 @@ use fields::{check_sums, number_at};
 use std::io;
 use std::io::Read;
 
-// Reads until the buffer is full or the input ends, and answers how many bytes it put at the buffer's start.
+// Reads until the buffer is full or the input ends, and answers how many bytes it put at the buffer's start. A `while`, since each read takes as
+// many bytes as there are, and std has no call that says how many came before the input ended.
 fn read_full<R: Read>(input: &mut R, buf: &mut [u8]) -> io::Result<usize>
     ensures { IfOk result (λ n. n ≤ length buf.new) }
 {
@@ -27,66 +28,50 @@ fn read_full<R: Read>(input: &mut R, buf: &mut [u8]) -> io::Result<usize>
     Ok(done)
 }
 
-// One case, and whether to go on.
-fn one<R: Read>(rt: &impl Print, input: &mut R) -> io::Result<bool> {
+// What stands before a case's bytes, or none where the input has no whole one more.
+fn next_head<R: Read>(input: &mut R) -> io::Result<Option<[u8; 12]>> {
     let mut head = [0u8; 12];
     if read_full(input, &mut head)? != 12 {
-        return Ok(false);
+        return Ok(None);
     }
-    let mut piece = [0u8; 1024];
-    let mut file = [0u8; 2048];
-    answer_next(rt, input, &head, &mut piece, &mut file)?;
-    Ok(true)
+    Ok(Some(head))
 }
 
 // The bytes that follow, as far as there is room.
-fn answer_next<R: Read>(
-    rt: &impl Print,
-    input: &mut R,
-    head: &[u8],
-    piece: &mut [u8],
-    file: &mut [u8],
-) -> io::Result<()> {
-    if head.len() != 12 {
-        return Ok(());
-    }
+fn answer_next<R: Read>(rt: &impl Print, input: &mut R, head: &[u8; 12]) -> io::Result<()> {
     let length = number_at(head, 0, 2) as usize;
     let size = number_at(head, 2, 2) as usize;
     let number = number_at(head, 4, 8);
-    if length <= piece.len() {
-        if size <= file.len() {
-            read_full(input, &mut piece[0..length])?;
-            read_full(input, &mut file[0..size])?;
-            answer(rt, &piece[0..length], &mut file[0..size], number)?;
-        }
+    let mut piece = [0u8; 1024];
+    let mut file = [0u8; 2048];
+    if piece.len() < length || file.len() < size {
+        return Ok(());
     }
-    Ok(())
+    read_full(input, &mut piece[..length])?;
+    read_full(input, &mut file[..size])?;
+    answer(rt, &piece[..length], &mut file[..size], number)
 }
 
 fn answer(rt: &impl Print, piece: &[u8], file: &mut [u8], number: u64) -> io::Result<()> {
-    let loaded = block::read(piece);
-    let read = loaded.refusal;
-    let ship = loaded.ship;
-    let written = block::write(file, number, ship);
+    let (read, ship) = match block::read(piece) {
+        Ok(ship) => (0, ship),
+        Err(refusal) => (ship::number(refusal), layout::empty()),
+    };
+    let written = match block::write(file, number, ship) {
+        Ok(()) => 0,
+        Err(refusal) => ship::number(refusal),
+    };
     let sums = check_sums(file);
-    put(rt, ship::number(read) as u64, " ")?;
-    put(rt, ship::number(written) as u64, " ")?;
-    put(rt, sums.a as u64, " ")?;
-    put(rt, sums.b as u64, "\n")
-}
-
-fn put(rt: &impl Print, n: u64, after: &str) -> io::Result<()> {
-    print!(rt; "{n}{after}")
+    println!(rt; "{read} {written} {} {}", sums.a, sums.b)
 }
 
 fn main(rt: HostRuntime) -> io::Result<()> {
     let mut input = rt.reader();
-    let mut left: u64 = 65536;
-    while 0 < left {
-        if !one(&rt, &mut input)? {
-            return Ok(());
-        }
-        left -= 1;
+    for _ in 0..65536 {
+        let Some(head) = next_head(&mut input)? else {
+            break;
+        };
+        answer_next(&rt, &mut input, &head)?;
     }
     Ok(())
 }

@@ -12,11 +12,7 @@ use lib.Ieee.Fits.{of_int-fits}
 use lib.Ieee.Back.{round_whole, whole_unique}
 use Rattle.hull.specs.Yard.{Exactly, as_double, zero_double}
 
--- It may be cast, and is exactly that number.
-pub castable : (n : ℕ) → n < 2 ^ 53 → T (in_float binary64 (pos n))
-unfolding in_float
-castable n h = le→leb n (2 ^ 53) (le_of_lt h)
-
+-- It is exactly that number.
 pub exactly : (n : ℕ) → n < 2 ^ 53 → Exactly (as_double n) n
 unfolding Exactly as_double of_int
 exactly n h = round_whole binary64 false n (le_of_lt h)

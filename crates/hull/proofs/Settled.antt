@@ -6,26 +6,23 @@ use mathlib.Core.Path.{◌≡◌, refl, sym, ap, ◌∙◌}
 use mathlib.Core.List.{List}
 use mathlib.Core.Logic.{⊎_elim}
 use native.Mathlib.Omega.{arith}
+use Rattle.std.specs.Prelude.{Option, None, Some, Ok, Err}
 use Rattle.formula.specs.Formula.{◌//◌, Formula, Enclosed}
 use Rattle.formula.proofs.Formulas.{consistent}
 use Rattle.exact.specs.Ship.{Figures, declared}
 use Rattle.exact.specs.Ranges.{Range, Inside, most_favourable, least_favourable}
 use Rattle.exact.specs.Index.{speed}
 use Rattle.ship.specs.Figures.{figures}
-use Rattle.ship.specs.Refusals.{number_of}
-use Rattle.ship.specs.declared.Refusal.TheVariants.{None}
 use Rattle.ship.specs.declared.Ship.{Ship}
-use Rattle.block.specs.Answers.{read_refusal, read_of}
+use Rattle.layout.specs.Layout.{ship_in}
+use Rattle.block.specs.Answers.{read_refusal}
 use Rattle.propeller.specs.Propeller.{Speed}
 use Rattle.index.specs.declared.SpeedBounds.{SpeedBounds}
-use Rattle.desk.specs.Answers.{lower_in, upper_in, answer_of_block}
-use Rattle.desk.specs.Steps.{own_speeds, speeds_answer_of_block, index_answer_of_block, speed_number_in, speeds_in}
-use Rattle.desk.specs.declared.Answer.{Answer}
-use Rattle.desk.specs.declared.Answer.TheVariants as answer
-use Rattle.desk.specs.declared.SpeedAnswer.TheVariants.{Speeds, Refused}
+use Rattle.desk.specs.Answers.{Answer, refusal_number, number_in, lower_in, upper_in, answer_of_block}
+use Rattle.desk.specs.Steps.{own_speeds, speeds_answer_of_block, index_answer_of_block, no_speeds, speeds_in}
 use Rattle.desk.proofs.Demands as demands
 use Rattle.hull.specs.Yard.{found_of, found_in, found}
-use Rattle.hull.specs.Settled.{knots_of, bounds_of, found_speeds_in, handed, found_speeds, found_index}
+use Rattle.hull.specs.Settled.{knots_of, bounds_of, found_speeds_of, found_speeds_in, handed, found_speeds, found_index}
 use Rattle.hull.specs.declared.Knots.{Knots}
 use Rattle.hull.proofs.Yard as yard
 
@@ -39,22 +36,24 @@ in_order {e} s = (omega (arith, (consistent e s.encloses.low s.encloses.high).cr
 module _ (b : List ℕ) where
   -- The record of accepted bytes.
   abbrev S : Ship
-  S = (read_of b).ship
+  S = ship_in b
 
-  known : read_refusal b ≡ None → speeds_answer_of_block b ≡ Speeds (own_speeds S)
+  known : read_refusal b ≡ None → speeds_answer_of_block b ≡ Ok (own_speeds S)
   known e = (demands.steps_as_record b e).0 ∙ demands.speed_settled S (demands.block_record_accepted b e).none
 
   -- The speed is refused where the index is, by the same number.
   pub same_refusal : (found_speeds b).refusal ≡ (found b).refusal
   same_refusal =
       ⊎_elim
-      (λ e. ap speed_number_in (known e) ∙ sym (yard.numbered b ∙ ap number_of e))
-      (λ h. ap speed_number_in (demands.steps_refused b h).0 ∙ sym (yard.numbered b))
+      (λ e. ap number_in (known e) ∙ sym (yard.numbered b ∙ ap refusal_number e))
+      (λ k. ap number_in (demands.steps_refused b k.1).0 ∙ sym (yard.numbered b ∙ ap refusal_number k.1))
       (yard.either b)
 
   -- With a refusal there is no bound.
-  pub no_speed : ((found b).refusal ≡ 0 → ⊥) → found_speeds b ≡ found_speeds_in (Refused (read_refusal b))
-  no_speed h = ap found_speeds_in (demands.steps_refused b (λ e. h (yard.numbered b ∙ ap number_of e))).0
+  pub no_speed : ((found b).refusal ≡ 0 → ⊥) → found_speeds b ≡ found_speeds_of (refusal_number (read_refusal b)) no_speeds
+  no_speed h =
+      let k = yard.refused_by b h in
+      ap found_speeds_in (demands.steps_refused b k.1).0 ∙ ap (λ r. found_speeds_of (refusal_number r) no_speeds) (sym k.1)
 
   -- Without one each pair encloses the exact speed of its own ship, and is as close as document 01 says.
   own_pairs : (found b).refusal ≡ 0 → handed (found_speeds b).most (found_speeds b).least ≡ own_speeds S
@@ -75,11 +74,11 @@ module _ (b : List ℕ) where
 
   -- Bounds are in order, and none is above 230 knots.
   pub slow : WithinKnots (found_speeds b).most × WithinKnots (found_speeds b).least
-  slow = ⊎_elim (λ e. let h = yard.numbered b ∙ ap number_of e in (in_order (most_speed h), in_order (least_speed h))) (λ h. rw (demands.steps_refused b h).0 (search arith)) (yard.either b)
+  slow = ⊎_elim (λ e. let h = yard.numbered b ∙ ap refusal_number e in (in_order (most_speed h), in_order (least_speed h))) (λ k. rw (demands.steps_refused b k.1).0 (search arith)) (yard.either b)
 
   -- One step after the other gives what one call gives, a refusal too.
   pub one_after_the_other : found_index b (found_speeds b).most (found_speeds b).least ≡ found b
-  one_after_the_other = ap found_in (⊎_elim settled (λ h. (demands.steps_refused b h).1 _ ∙ sym (demands.block_refused b h)) (yard.either b))
+  one_after_the_other = ap found_in (⊎_elim settled (λ k. (demands.steps_refused b k.1).1 _ ∙ sym (demands.block_refused b k.1)) (yard.either b))
     where
       settled : read_refusal b ≡ None → index_answer_of_block b (handed (found_speeds b).most (found_speeds b).least) ≡ answer_of_block b
       settled e = rw (known e) (rw (known e) at (demands.one_after_the_other_block b))
@@ -95,13 +94,13 @@ module _ (b : List ℕ) where
 
   pub refused_first : (most least : Knots) → ((found b).refusal ≡ 0 → ⊥) → found_index b most least ≡ found b
   refused_first most least h =
-      let k : read_refusal b ≡ None → ⊥ = λ e. h (yard.numbered b ∙ ap number_of e) in
-      ap found_in ((demands.steps_refused b k).1 _ ∙ sym (demands.block_refused b k))
+      let k = yard.refused_by b h in
+      ap found_in ((demands.steps_refused b k.1).1 _ ∙ sym (demands.block_refused b k.1))
 
   -- Its bounds, where it has any, are those of one call, and so below 2^53.
   pub small_index : (v : SpeedBounds) → (lower_in (index_answer_of_block b v) < 2 ^ 53) × (upper_in (index_answer_of_block b v) < 2 ^ 53)
   small_index v = go (index_answer_of_block b v) refl
     where
       go : (a : Answer) → index_answer_of_block b v ≡ a → (lower_in a < 2 ^ 53) × (upper_in a < 2 ^ 53)
-      go (answer.Bounds i) e = yard.small_bounds b i (sym (demands.no_other_index_block b v i e).1)
-      go (answer.Refused r) e = (omega arith, omega arith)
+      go (Ok i) e = yard.small_bounds b i (sym (demands.no_other_index_block b v i e).1)
+      go (Err r) e = (omega arith, omega arith)

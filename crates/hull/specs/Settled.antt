@@ -3,8 +3,8 @@
 use Rattle.std.specs.Prelude.{List, ℕ}
 use Rattle.power.specs.declared.Bounds.{Bounds}
 use Rattle.index.specs.declared.SpeedBounds.{SpeedBounds}
-use Rattle.desk.specs.Steps.{speeds_answer_of_block, index_answer_of_block, speed_number_in, speeds_in}
-use Rattle.desk.specs.declared.SpeedAnswer.{SpeedAnswer}
+use Rattle.desk.specs.Answers.{number_in}
+use Rattle.desk.specs.Steps.{SpeedAnswer, speeds_answer_of_block, index_answer_of_block, speeds_in}
 use Rattle.hull.specs.Yard.{found_in}
 use Rattle.hull.specs.declared.Found.{Found}
 use Rattle.hull.specs.declared.Knots.{Knots}
@@ -13,8 +13,11 @@ use Rattle.hull.specs.declared.FoundSpeeds.{FoundSpeeds}
 abbrev pub knots_of : Bounds → Knots
 knots_of v = record { lower = v.lo; upper = v.hi }
 
+abbrev pub found_speeds_of : (refusal : ℕ) → SpeedBounds → FoundSpeeds
+found_speeds_of refusal v = record { refusal = refusal; most = knots_of v.most; least = knots_of v.least }
+
 abbrev pub found_speeds_in : SpeedAnswer → FoundSpeeds
-found_speeds_in a = record { refusal = speed_number_in a; most = knots_of (speeds_in a).most; least = knots_of (speeds_in a).least }
+found_speeds_in a = found_speeds_of (number_in a) (speeds_in a)
 
 -- The two pairs that are handed in, as the desk takes them.
 abbrev pub bounds_of : Knots → Bounds

@@ -4,8 +4,7 @@ use Rattle.std.specs.Prelude.{false, List, ℕ, pos, Float}
 use Rattle.std.specs.Float.{fin, binary64}
 use Rattle.std.specs.Float.Ieee.{of_int}
 use Rattle.std.specs.Float.Ieee.Exact.{HasValue}
-use Rattle.desk.specs.Answers.{answer_of_block, number_in, lower_in, upper_in}
-use Rattle.desk.specs.declared.Answer.{Answer}
+use Rattle.desk.specs.Answers.{Answer, answer_of_block, number_in, lower_in, upper_in}
 use Rattle.hull.specs.declared.Pair.{Pair}
 use Rattle.hull.specs.declared.Found.{Found}
 

@@ -7,7 +7,7 @@ ghost use Rattle.desk.specs.Steps.{speeds_answer_of_block, index_answer_of_block
 ghost use Rattle.hull.specs.Yard.{found_of, found_in};
 ghost use Rattle.hull.specs.Settled.{knots_of, found_speeds_in, bounds_of, handed};
 
-use desk::{Answer, SpeedAnswer};
+use desk::Answer;
 use index::SpeedBounds;
 use power::Bounds;
 
@@ -19,7 +19,8 @@ pub struct Pair {
     pub upper: f64,
 }
 
-// The refusal's number, 0 for none; the two bounds in millionths, both 0 with a refusal; and the same as doubles.
+// The refusal's number, 0 for none; the two bounds in millionths, both 0 with a refusal; and the same as doubles. Plain numbers and no Result, here, in
+// `Knots` and in `FoundSpeeds`, and types of their own beside `power::Bounds`: C has their layout and names (c/yagmurzol.h).
 #[repr(C)]
 #[derive(Clone, Copy)]
 pub struct Found {
@@ -30,6 +31,7 @@ pub struct Found {
 }
 
 // A double has every whole number up to 2^53.
+#[tactic(auto, unfolding(crate::specs::Yard::as_double))]
 fn all_of(refusal: u8, lower: u64, upper: u64) -> Found
     requires { (lower < 2 ^ 53) × (upper < 2 ^ 53) }
     ensures { result ≡ found_of refusal lower upper }
@@ -51,8 +53,8 @@ fn told(answer: Answer) -> Found
     ensures { result ≡ found_in answer }
 {
     match answer {
-        Answer::Bounds(bounds) => all_of(0, bounds.lower, bounds.upper),
-        Answer::Refused(refusal) => all_of(ship::number(refusal), 0, 0),
+        Ok(bounds) => all_of(0, bounds.lower, bounds.upper),
+        Err(refusal) => all_of(ship::number(refusal), 0, 0),
     }
 }
 
@@ -60,36 +62,31 @@ fn told(answer: Answer) -> Found
 pub fn yagmurzol_ask(block: &[u8]) -> Found
     ensures { result ≡ found_in (answer_of_block block.now) }
 {
-    let answer = desk::bounds_of_block(block);
-    told(answer)
+    told(desk::bounds_of_block(block))
 }
 
 pub fn yagmurzol_refusal(block: &[u8]) -> u8
     ensures { result ≡ number_in (answer_of_block block.now) }
 {
-    let all = yagmurzol_ask(block);
-    all.refusal
+    yagmurzol_ask(block).refusal
 }
 
 pub fn yagmurzol_lower(block: &[u8]) -> u64
     ensures { result ≡ lower_in (answer_of_block block.now) }
 {
-    let all = yagmurzol_ask(block);
-    all.lower
+    yagmurzol_ask(block).lower
 }
 
 pub fn yagmurzol_upper(block: &[u8]) -> u64
     ensures { result ≡ upper_in (answer_of_block block.now) }
 {
-    let all = yagmurzol_ask(block);
-    all.upper
+    yagmurzol_ask(block).upper
 }
 
 pub fn yagmurzol_doubles(block: &[u8]) -> Pair
     ensures { result ≡ (found_in (answer_of_block block.now)).pair }
 {
-    let all = yagmurzol_ask(block);
-    all.pair
+    yagmurzol_ask(block).pair
 }
 
 // ── In two steps ────────────────────────────────────────────────────────────────────────────────
@@ -111,12 +108,25 @@ pub struct FoundSpeeds {
     pub least: Knots,
 }
 
-fn in_knots(v: Bounds) -> Knots
-    ensures { result ≡ knots_of v }
-{
-    Knots {
-        lower: v.lo,
-        upper: v.hi,
+impl From<Bounds> for Knots {
+    ghost from_gives = { λ v r. r ≡ knots_of v };
+
+    fn from(v: Bounds) -> Knots {
+        Knots {
+            lower: v.lo,
+            upper: v.hi,
+        }
+    }
+}
+
+impl From<Knots> for Bounds {
+    ghost from_gives = { λ v r. r ≡ bounds_of v };
+
+    fn from(v: Knots) -> Bounds {
+        Bounds {
+            lo: v.lower,
+            hi: v.upper,
+        }
     }
 }
 
@@ -124,27 +134,17 @@ fn in_knots(v: Bounds) -> Knots
 pub fn yagmurzol_speeds(block: &[u8]) -> FoundSpeeds
     ensures { result ≡ found_speeds_in (speeds_answer_of_block block.now) }
 {
-    let answer = desk::speeds_of_block(block);
-    match answer {
-        SpeedAnswer::Speeds(v) => FoundSpeeds {
+    match desk::speeds_of_block(block) {
+        Ok(v) => FoundSpeeds {
             refusal: 0,
-            most: in_knots(v.most),
-            least: in_knots(v.least),
+            most: Knots::from(v.most),
+            least: Knots::from(v.least),
         },
-        SpeedAnswer::Refused(refusal) => FoundSpeeds {
+        Err(refusal) => FoundSpeeds {
             refusal: ship::number(refusal),
             most: Knots { lower: 0, upper: 0 },
             least: Knots { lower: 0, upper: 0 },
         },
-    }
-}
-
-fn bounds_of(v: Knots) -> Bounds
-    ensures { result ≡ bounds_of v }
-{
-    Bounds {
-        lo: v.lower,
-        hi: v.upper,
     }
 }
 
@@ -153,9 +153,8 @@ pub fn yagmurzol_index(block: &[u8], most: Knots, least: Knots) -> Found
     ensures { result ≡ found_in (index_answer_of_block block.now (handed most least)) }
 {
     let v = SpeedBounds {
-        most: bounds_of(most),
-        least: bounds_of(least),
+        most: Bounds::from(most),
+        least: Bounds::from(least),
     };
-    let answer = desk::index_from_block(block, v);
-    told(answer)
+    told(desk::index_from_block(block, v))
 }

@@ -1,11 +1,14 @@
 // The rules of the layout and the hull, 3 to 8: each a function that says whether it is broken, and the first one broken.
+// A type, a method and the like are tested as numbers: each contract says of any numbers of a record, also of those that no enum has, whether a
+// rule of ship/specs/Rules.antt is broken.
+// A limit is two comparisons, under the least or over the most, as the document's table reads: `!(lo..=hi).contains(&n)` says a refusal by a negation.
 #![tactic(auto)]
 
-ghost use Rattle.std.specs.Prelude.{◌≡◌};
-ghost use Rattle.ship.specs.Refusals.{first_of};
+ghost use Rattle.std.specs.Prelude.{◌≡◌, None};
+ghost use Rattle.ship.specs.Refusals.{first_of, verdict};
 ghost use Rattle.ship.specs.Rules.{layout_refused, imo_refused, type_refused, deadweight_refused, gross_refused, volume_refused, hull_tests};
 
-use ship::{Deadweight, GrossTonnage, Refusal, Ship, first};
+use ship::{Deadweight, GrossTonnage, Refusal, Ship, refuse_if};
 
 // Rule 3.
 fn layout_broken(layout: u64) -> bool
@@ -56,16 +59,15 @@ fn volume_broken(kind: u64, cargo: u64) -> bool
 }
 
 // Rules 3 to 8.
-pub fn hull_refusal(s: Ship, rest: Refusal) -> Refusal
-    ensures { result ≡ first_of (hull_tests s) rest }
+#[tactic(auto, unfolding(ship::specs::Refusals::first_of, ship::specs::Rules::hull_tests))]
+pub fn hull_check(s: &Ship) -> Result<(), Refusal>
+    ensures { result ≡ verdict (first_of (hull_tests s.now) None) }
 {
-    let p = s.particulars;
-    let deadweight = p.deadweight;
-    let gross = p.gross;
-    let cargo = first(volume_broken(p.kind, p.cargo), Refusal::CargoVolume, rest);
-    let tonnage = first(gross_broken(p.kind, gross), Refusal::GrossTonnage, cargo);
-    let weight = first(deadweight_broken(deadweight), Refusal::Deadweight, tonnage);
-    let kind = first(type_broken(p.layout, p.kind), Refusal::ShipType, weight);
-    let imo = first(imo_broken(p.imo), Refusal::ImoNumber, kind);
-    first(layout_broken(p.layout), Refusal::Layout, imo)
+    let p = &s.particulars;
+    refuse_if(layout_broken(p.layout), Refusal::Layout)?;
+    refuse_if(imo_broken(p.imo), Refusal::ImoNumber)?;
+    refuse_if(type_broken(p.layout, p.kind), Refusal::ShipType)?;
+    refuse_if(deadweight_broken(p.deadweight), Refusal::Deadweight)?;
+    refuse_if(gross_broken(p.kind, p.gross), Refusal::GrossTonnage)?;
+    refuse_if(volume_broken(p.kind, p.cargo), Refusal::CargoVolume)
 }

@@ -1,21 +1,18 @@
--- The laws of the bounds, of a record that no rule refuses. Assumes nothing.
+-- The laws of the bounds, of an accepted record. Assumes nothing.
 use mathlib.Core.Path.{◌≡◌, sym, ap, ap₂, ◌∙◌}
 use mathlib.Core.Bool.{Bool, true, false, not}
 use Prim.Native.Nat.{ℕ, ◌+◌, ◌≤◌}
 use native.Mathlib.Nat.{le_refl, le_antisymm}
 use native.Mathlib.Omega.{arith}
-use lib.ListN.{length}
 use Rattle.exact.specs.Ship.{general, Method}
 use Rattle.exact.specs.Ranges.{method_at, ship_at, most_favourable, least_favourable}
 use Rattle.power.specs.declared.Bounds.{Bounds}
-use Rattle.ship.specs.Accepted.{Within, Shaped, AcceptedFigures}
-use Rattle.ship.specs.Figures.{kind_of, Listed, deadweight_of, hull_of, range_of, method_of, figures}
-use Rattle.ship.specs.Rules.{refusal_of}
-use Rattle.ship.specs.declared.Refusal.TheVariants as refusal
+use Rattle.ship.specs.Accepted.{Shaped, AcceptedFigures}
+use Rattle.ship.specs.Figures.{kind_of, deadweight_of, hull_of, range_of, method_of, figures}
 use Rattle.ship.specs.declared.Range.{Range}
 use Rattle.ship.specs.declared.Ship.{Ship}
+use Rattle.ship.specs.declared.accepted.Accepted.{Accepted}
 use Rattle.ship.proofs.Numbered.{method_end}
-use Rattle.ship.proofs.Right.{numbers_accepted}
 use Rattle.ship.proofs.Figured.{figures_accepted}
 use Rattle.plant.specs.Plant.{end, at_end, main_N, auxiliary_N, load_of, P_ME_of, emitted_of}
 use Rattle.plant.proofs.Growth.{emitting}
@@ -29,9 +26,12 @@ use Rattle.index.specs.declared.SpeedBounds.{SpeedBounds}
 use Rattle.index.proofs.Emissions.{main_order}
 use Rattle.index.proofs.Laws.{speed_accepted, speed_is, sized_lower, sized_upper, ends_alike}
 
-module _ (s : Ship) (four : length s.engines ≡ 4) (none : refusal_of s ≡ refusal.None) where
+module _ (a : Accepted) where
+  abbrev s : Ship
+  s = a.ship
+
   pub of_record : AcceptedFigures (figures s)
-  of_record = figures_accepted s four none
+  of_record = figures_accepted s a.entries.engines a.accepted
 
   -- What the speed asks at an end, and what it answers.
   abbrev method_at_end : Bool → Method ℕ
@@ -40,10 +40,9 @@ module _ (s : Ship) (four : length s.engines ≡ 4) (none : refusal_of s ≡ ref
   method_is : (top : Bool) → method_at (end (not top)) (method_of s.particulars.method (range_of s.speed) s.particulars.trial) ≡ method_at_end top
   method_is top = method_end (end (not top)) s.particulars.method (range_of s.speed) s.particulars.trial
 
-  pub asked : (top : Bool) → Listed s.particulars.kind × Within 1 4 s.particulars.method
-      × AcceptedSpeed (method_at_end top) (kind_of s.particulars.kind) (deadweight_of s.particulars.deadweight) (P_ME_of (at_end top (figures s)))
+  pub asked : (top : Bool) → AcceptedSpeed (method_at_end top) (kind_of s.particulars.kind) (deadweight_of s.particulars.deadweight) (P_ME_of (at_end top (figures s)))
   unfolding figures ship_at
-  asked top = ((numbers_accepted s none).kind, (numbers_accepted s none).speed.method, rw (method_is top) at (speed_accepted top of_record))
+  asked top = rw (method_is top) at (speed_accepted top of_record)
 
   pub answered : (top : Bool) → speed_by (method_at_end top) (kind_of s.particulars.kind) (deadweight_of s.particulars.deadweight) (P_ME_of (at_end top (figures s)))
       ≡ speed_of (at_end top (figures s))
@@ -62,8 +61,9 @@ module _ (s : Ship) (four : length s.engines ≡ 4) (none : refusal_of s ≡ ref
   pub own_speed : Fast (speed_of (most_favourable (figures s)))
   own_speed = fast_of (speed_is false of_record)
 
-  pub own_hull : s.particulars.kind ≡ 8 → Shaped (hull_of s.particulars.build.hull)
-  own_hull = (numbers_accepted s none).build.hull
+  pub own_hull : kind_of s.particulars.kind ≡ general → Shaped (hull_of s.particulars.build.hull)
+  unfolding figures
+  own_hull = of_record.hull
 
   pub main_small : (top : Bool) → main_N (at_end top (figures s)) ≤ 6000000000000000
   main_small top = omega (arith, (emitting top of_record).most)

@@ -1,7 +1,7 @@
 -- The two roundings of an index: what fits, how near they are, and that they grow and fall with their parts. Assumes nothing.
 use mathlib.Core.Path.{◌≡◌, refl}
 use Prim.Native.Nat.{ℕ, zero, suc, ◌+◌, ◌*◌, ◌/◌, ◌^◌, ◌≤◌, ◌<◌}
-use native.Mathlib.Nat.{le_trans, le_of_lt, lt_of_le_of_lt, lt_of_lt_of_le, mul-pos, mul-le-mul, mul-le-mul_left, mul-le-mul_right, pow-le-pow_right}
+use native.Mathlib.Nat.{le_trans, lt_of_le_of_lt, lt_of_lt_of_le, mul-pos, mul-le-mul, mul-le-mul_left, mul-le-mul_right, pow-le-pow_right}
 use native.Mathlib.Omega.{arith}
 use lib.Dec.{lit<, lit≤}
 use Rattle.number.specs.Division.{Divisible, Floor, Ceil, ceil_of}
@@ -52,9 +52,6 @@ module _ {n load v c : ℕ} (z : Sized n load v c) where
 
   pub down_some : 0 < load * v * millionths_down c
   down_some = mul-pos work_some (omega (arith, (down_within z.factored).least))
-
-  pub quotient_small : {u : ℕ} → Ceil (n * 1000 * 1000000 ^ 2) (load * v) u → u ≤ 2 ^ 63
-  quotient_small f = ceil_least f (2 ^ 63) (rw in_digits (le_of_lt enough))
 
   pub lower_floor : Floor (n * 10 ^ 15) (load * v * millionths_up c) (index_down n load v c)
   unfolding index_down

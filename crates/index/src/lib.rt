@@ -3,24 +3,27 @@
 #![tactic(auto)]
 
 ghost use Rattle.std.specs.Prelude.{◌≡◌, ◌≤◌};
-ghost use Rattle.ship.specs.Figures.{kind_of, Listed, hull_of, figures};
+ghost use Rattle.exact.specs.Ship.{general};
+ghost use Rattle.ship.specs.Figures.{hull_of, figures};
+ghost use Rattle.ship.specs.Kinds.{type_of};
 ghost use Rattle.ship.specs.Accepted.{Shaped};
-ghost use Rattle.ship.specs.Rules.{refusal_of};
-ghost use Rattle.ship.specs.declared.Refusal.TheVariants as refusal;
 ghost use Rattle.correction.specs.Correction.{Fast};
 ghost use Rattle.index.specs.Attained.{Sized, index_down, index_up, main_of, speeds_of, index_of};
 
 use power::Bounds;
-use ship::{Hull, Range, Ship};
+use ship::accepted::Accepted;
+use ship::kinds::ShipType;
+use ship::{Hull, Range};
 
 // The speed of the most and of the least favourable ship, in millionths of a knot.
-#[derive(Clone, Copy)]
+#[derive(Clone, Copy, PartialEq, Eq)]
 pub struct SpeedBounds {
     pub most: Bounds,
     pub least: Bounds,
 }
 
-#[derive(Clone, Copy)]
+// The bounds of an index, in millionths: a type of its own, so that bounds of a speed or a factor aren't taken for it.
+#[derive(Clone, Copy, PartialEq, Eq)]
 pub struct Index {
     pub lower: u64,
     pub upper: u64,
@@ -42,11 +45,11 @@ fn both(n: u64, load: u64, v: u64, c: u64) -> Index
             upper: q.up,
         };
     }
-    let up = (c * 1000000 + 1073741823) / 1073741824;
+    let up = (c * 1000000).div_ceil(1073741824);
     let down = c * 1000000 / 1073741824;
     let q = number::division::both_scaled(thousandfold, work, 1000000, 2);
     let lower = q.down / up;
-    let upper = (q.up + (down - 1)) / down;
+    let upper = q.up.div_ceil(down);
     Index { lower, upper }
 }
 
@@ -68,55 +71,60 @@ fn between(n: Range, load: u64, most: u64, least: u64, c: Bounds) -> Index
     }
 }
 
-// The speed bounds of a record that rules 3 to 19 leave. Where neither speed nor power is a range, the most and the least favourable
-// ship have one speed.
-pub fn speeds(s: Ship) -> SpeedBounds
-    requires { refusal_of s ≡ refusal.None }
-    ensures { result ≡ speeds_of (figures s) }
+// The speed bounds of an accepted record. Where neither speed nor power is a range, the most and the least favourable ship have one speed.
+pub fn speeds(a: &Accepted) -> SpeedBounds
+    ensures { result ≡ speeds_of (figures a.now.ship) }
 {
-    let p = s.particulars;
-    let deadweight = p.deadweight;
-    let run = p.trial;
-    let power = plant::powers(s);
-    let most = speed::speed(p.kind, deadweight, p.method, run, s.speed.high, power.low);
+    let s = &a.ship;
+    let kind = a.kind();
+    let method = a.method();
+    let deadweight = s.particulars.deadweight;
+    let power = plant::powers(a);
+    let most = speed::speed(kind, deadweight, method, s.speed.high, power.low);
     if (s.speed.low == s.speed.high) & (power.low == power.high) {
         return SpeedBounds { most, least: most };
     }
-    let least = speed::speed(p.kind, deadweight, p.method, run, s.speed.low, power.high);
+    let least = speed::speed(kind, deadweight, method, s.speed.low, power.high);
     SpeedBounds { most, least }
 }
 
 // The main engines' emissions at the two ends of their ranges, with f_j, which only a general cargo ship has. Rule 18 shapes her hull.
-fn main_engines(kind: u64, v: Bounds, hull: Hull, main: Range) -> Range
-    requires listed { Listed kind × Fast v × (kind ≡ 8 → Shaped (hull_of hull)) }
+#[tactic(auto, unfolding(crate::specs::Attained::main_of))]
+fn main_engines(kind: ShipType, v: Bounds, hull: Hull, main: Range) -> Range
+    requires fast { Fast v × (type_of kind ≡ general → Shaped (hull_of hull)) }
     requires low_bound { (main.low ≤ 6000000000000000) × (main.high ≤ 6000000000000000) }
-    ensures low_value { result.low ≡ (main_of (kind_of kind) v (hull_of hull) main.low).lo }
-    ensures high_value { result.high ≡ (main_of (kind_of kind) v (hull_of hull) main.high).hi }
+    ensures low_value { result.low ≡ (main_of (type_of kind) v (hull_of hull) main.low).lo }
+    ensures high_value { result.high ≡ (main_of (type_of kind) v (hull_of hull) main.high).hi }
 {
-    if kind != 8 {
-        return main;
-    }
-    let f = correction::general(v, hull);
-    Range {
-        low: number::product::scaled_down(main.low, f.lo),
-        high: number::product::scaled_up(main.high, f.hi),
+    match kind {
+        ShipType::General => {
+            let f = correction::general(v, hull);
+            Range {
+                low: number::product::scaled_down(main.low, f.lo),
+                high: number::product::scaled_up(main.high, f.hi),
+            }
+        }
+        ShipType::Bulk
+        | ShipType::Gas
+        | ShipType::Tanker
+        | ShipType::Container
+        | ShipType::Refrigerated
+        | ShipType::Combination
+        | ShipType::Vehicle => main,
     }
 }
 
-// The bounds of a record's index from its own speed bounds, where rules 3 to 19 leave it.
-pub fn attained(s: Ship, v: SpeedBounds) -> Index
-    requires { (refusal_of s ≡ refusal.None) × (v ≡ speeds_of (figures s)) }
-    ensures { result ≡ index_of (figures s) }
+// The bounds of an accepted record's index from its own speed bounds.
+pub fn attained(a: &Accepted, v: SpeedBounds) -> Index
+    requires { v ≡ speeds_of (figures a.now.ship) }
+    ensures { result ≡ index_of (figures a.now.ship) }
 {
-    let c = factor::factor(s);
-    let most = v.most;
-    let least = v.least;
-    let load = plant::load(s);
-    let n = plant::emissions(s);
-    let hull = s.particulars.build.hull;
-    let own = n.main;
-    let main = main_engines(s.particulars.kind, most, hull, own);
+    let c = factor::factor(a);
+    let load = plant::load(a);
+    let n = plant::emissions(a);
+    let hull = a.ship.particulars.build.hull;
+    let main = main_engines(a.kind(), v.most, hull, n.main);
     let low = main.low + n.auxiliary.low;
     let high = main.high + n.auxiliary.high;
-    between(Range { low, high }, load, most.hi, least.lo, c)
+    between(Range { low, high }, load, v.most.hi, v.least.lo, c)
 }

@@ -7,7 +7,7 @@ use native.Mathlib.Omega.{arith}
 use borrow.Rule.Slice.PartMut.{put_mid}
 use lib.ListN.{length, take, drop, length-append, drop_of_length-le}
 use lib.Seq.{take_at, drop_at}
-use Rattle.fields.specs.Runs.{total, packed}
+use Rattle.fields.specs.Runs.{packed}
 use Rattle.fields.specs.Checks.{sums}
 use Rattle.fields.specs.declared.Sums.{Sums}
 use Rattle.fields.proofs.Runs.{packed_length}
@@ -19,11 +19,11 @@ use Rattle.layout.specs.Layout.{head, entry, entries, fields, body, encode}
 -- ── Lengths ─────────────────────────────────────────────────────────────────────────────────
 
 pub body_length : (s : Ship) → length (body s) ≡ 508
-unfolding body fields head entries entry front cranes sizes added newer total
+unfolding body fields head entries entry front cranes sizes added newer
 body_length s = packed_length (fields s)
 
 pub encode_length : (s : Ship) → length (encode s) ≡ 512
-unfolding encode total
+unfolding encode
 encode_length s =
     let cs : List (ℕ × ℕ) = (2, (sums 1 0 (body s)).a) ∷ (2, (sums 1 0 (body s)).b) ∷ [] in
     length-append (body s) (packed cs) ∙ rw (body_length s, packed_length cs)

@@ -28,7 +28,7 @@ unfolding widths fields head entries entry front cranes sizes added newer
 places = refl
 
 pub to_508 : total widths ≡ 508
-unfolding widths fields head entries entry front cranes sizes added newer total
+unfolding widths fields head entries entry front cranes sizes added newer
 to_508 = refl
 
 -- And an entry's, wherever it stands.

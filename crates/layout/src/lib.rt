@@ -1,5 +1,5 @@
 // Where each field of a record stands in a block of 512 bytes: read, and written run by run, each over its part, then the checks.
-// Whoever reads or writes a block here has seen that it has 512 bytes.
+// The parts that are written are slices: cut as arrays, each cut would answer an Option that is never None.
 
 #![tactic(auto)]
 
@@ -13,20 +13,10 @@ use fields::{Sums, check_sums, number_at, put_run};
 use ship::{Consumption, Deadweight, Engine, GrossTonnage, Particulars, Range, Ship, Trial};
 
 // The record that stands where there is none.
+#[tactic(auto, unfolding(crate::specs::Layout::ship_from, build_fields::specs::Fields::build_from))]
 pub fn empty() -> Ship
     ensures { result ≡ empty_ship }
 {
-    let none = Range { low: 0, high: 0 };
-    let uses = Consumption {
-        sfc: none,
-        fuel: 0,
-        source: 0,
-    };
-    let engine = Engine {
-        mcr: none,
-        limit: 0,
-        uses,
-    };
     let trial = Trial {
         power: 0,
         deadweight: Deadweight { tonnes: 0 },
@@ -48,9 +38,9 @@ pub fn empty() -> Ship
     };
     Ship {
         particulars,
-        speed: none,
-        auxiliary: uses,
-        engines: [engine, engine, engine, engine],
+        speed: Range::default(),
+        auxiliary: Consumption::default(),
+        engines: [Engine::default(); 4],
     }
 }
 
@@ -76,8 +66,7 @@ fn engine_at(block: &[u8], at: usize) -> Engine
     Engine { mcr, limit, uses }
 }
 
-fn particulars_in(block: &[u8]) -> Particulars
-    requires { length block.now ≡ 512 }
+fn particulars_in(block: &[u8; 512]) -> Particulars
     ensures { result ≡ particulars_from (numbers_in block.now) }
 {
     let trial = Trial {
@@ -108,8 +97,7 @@ fn particulars_in(block: &[u8]) -> Particulars
 }
 
 // The consumption of the auxiliary engines.
-fn auxiliary_in(block: &[u8]) -> Consumption
-    requires { length block.now ≡ 512 }
+fn auxiliary_in(block: &[u8; 512]) -> Consumption
     ensures { result ≡ uses_at (numbers_in block.now) 16 17 18 14 }
 {
     let sfc = Range {
@@ -124,8 +112,7 @@ fn auxiliary_in(block: &[u8]) -> Consumption
 }
 
 // The record that stands in a block.
-pub fn ship_in(block: &[u8]) -> Ship
-    requires { length block.now ≡ 512 }
+pub fn ship_in(block: &[u8; 512]) -> Ship
     ensures { result ≡ ship_in block.now }
 {
     let particulars = particulars_in(block);
@@ -134,12 +121,7 @@ pub fn ship_in(block: &[u8]) -> Ship
         high: number_at(block, 24, 4),
     };
     let auxiliary = auxiliary_in(block);
-    let engines = [
-        engine_at(block, 52),
-        engine_at(block, 72),
-        engine_at(block, 92),
-        engine_at(block, 112),
-    ];
+    let engines = std::array::from_fn(|i| engine_at(block, 52 + 20 * i));
     Ship {
         particulars,
         speed,
@@ -148,94 +130,80 @@ pub fn ship_in(block: &[u8]) -> Ship
     }
 }
 
-// The widths of the fields in bytes 0 to 51, in an engine entry, and of the checks.
-const HEAD: [usize; 20] = [2, 1, 1, 4, 4, 4, 4, 4, 4, 4, 4, 1, 1, 1, 1, 4, 2, 2, 1, 3];
-
-const ENTRY: [usize; 8] = [4, 4, 4, 2, 2, 1, 1, 2];
-
-const CHECKS: [usize; 2] = [2, 2];
-
+// Bytes 0 to 51.
 fn write_head(part: &mut [u8], s: Ship)
     requires { length part.old ≡ 52 }
     ensures { part.new ≡ packed (head s) }
 {
     let p = s.particulars;
-    let widths = HEAD;
-    let numbers = [
-        p.layout,
-        p.kind,
-        p.method,
-        p.imo,
-        p.deadweight.tonnes,
-        p.gross.gt,
-        p.cargo,
-        s.speed.low,
-        s.speed.high,
-        p.trial.power,
-        p.trial.deadweight.tonnes,
-        p.supply,
-        p.ice,
-        p.used,
-        s.auxiliary.source,
-        p.table,
-        s.auxiliary.sfc.low,
-        s.auxiliary.sfc.high,
-        s.auxiliary.fuel,
-        0,
+    let fields = [
+        (2, p.layout),
+        (1, p.kind),
+        (1, p.method),
+        (4, p.imo),
+        (4, p.deadweight.tonnes),
+        (4, p.gross.gt),
+        (4, p.cargo),
+        (4, s.speed.low),
+        (4, s.speed.high),
+        (4, p.trial.power),
+        (4, p.trial.deadweight.tonnes),
+        (1, p.supply),
+        (1, p.ice),
+        (1, p.used),
+        (1, s.auxiliary.source),
+        (4, p.table),
+        (2, s.auxiliary.sfc.low),
+        (2, s.auxiliary.sfc.high),
+        (1, s.auxiliary.fuel),
+        (3, 0),
     ];
-    put_run(part, &widths, &numbers);
+    put_run(part, &fields);
 }
 
+// An engine's entry of 20 bytes.
 fn write_entry(part: &mut [u8], e: Engine)
     requires { length part.old ≡ 20 }
     ensures { part.new ≡ packed (entry e) }
 {
-    let widths = ENTRY;
-    let numbers = [
-        e.mcr.low,
-        e.mcr.high,
-        e.limit,
-        e.uses.sfc.low,
-        e.uses.sfc.high,
-        e.uses.fuel,
-        e.uses.source,
-        0,
+    let fields = [
+        (4, e.mcr.low),
+        (4, e.mcr.high),
+        (4, e.limit),
+        (2, e.uses.sfc.low),
+        (2, e.uses.sfc.high),
+        (1, e.uses.fuel),
+        (1, e.uses.source),
+        (2, 0),
     ];
-    put_run(part, &widths, &numbers);
+    put_run(part, &fields);
 }
 
+// The four entries, bytes 52 to 131. By place: of what `chunks_mut` lends a proof knows the length alone.
 fn write_entries(part: &mut [u8], es: [Engine; 4])
     requires { length part.old ≡ 80 }
     ensures { part.new ≡ packed (entries es) }
 {
-    let a = es[0];
-    let b = es[1];
-    let c = es[2];
-    let d = es[3];
-    write_entry(&mut part[0..20], a);
-    write_entry(&mut part[20..40], b);
-    write_entry(&mut part[40..60], c);
-    write_entry(&mut part[60..80], d);
+    for (i, engine) in es.iter().enumerate() {
+        let at = 20 * i;
+        write_entry(&mut part[at..at + 20], *engine);
+    }
 }
 
 fn write_body(part: &mut [u8], s: Ship)
     requires { length part.old ≡ 508 }
     ensures { part.new ≡ body s }
 {
-    let es = s.engines;
-    let build = s.particulars.build;
     write_head(&mut part[0..52], s);
-    write_entries(&mut part[52..132], es);
-    write_newer(&mut part[132..508], build);
+    write_entries(&mut part[52..132], s.engines);
+    write_newer(&mut part[132..508], s.particulars.build);
 }
 
 fn write_checks(part: &mut [u8], sums: Sums)
     requires { length part.old ≡ 4 }
     ensures { part.new ≡ packed ((2, sums.a) ∷ (2, sums.b) ∷ []) }
 {
-    let widths = CHECKS;
-    let numbers = [sums.a as u64, sums.b as u64];
-    put_run(part, &widths, &numbers);
+    put_run(part, &[(2, u64::from(sums.a)), (2, u64::from(sums.b))]);
 }
 
 // The block of a ship, over a part of 512 bytes.

@@ -10,6 +10,11 @@ spaced n = decimal n ++ (32 ∷ [])
 abbrev pub ended : ℕ → List ℕ
 ended n = decimal n ++ (10 ∷ [])
 
+-- Numbers, a space behind each, and then the last one.
+abbrev pub numbers_line : List ℕ → ℕ → List ℕ
+numbers_line [] last = ended last
+numbers_line (n ∷ ns) last = spaced n ++ numbers_line ns last
+
 -- `refused` and a space, in ASCII.
 abbrev pub refused_word : List ℕ
 refused_word = 114 ∷ 101 ∷ 102 ∷ 117 ∷ 115 ∷ 101 ∷ 100 ∷ 32 ∷ []

@@ -1,71 +1,78 @@
-// The lines of the program: for each block its number and the desk's answer.
+// The lines of a file, whatever is asked of each block; and the index as what is asked: a block's number and the desk's answer.
 #![tactic(auto)]
 
-ghost use Rattle.std.specs.Prelude.{◌≡◌, ◌+◌, ◌-◌, ◌*◌, ◌≤◌, ◌<◌, ltb, length};
-ghost use Rattle.formula.specs.Words.{if};
+ghost use Rattle.std.specs.Prelude.{◌≡◌, ℕ, ◌+◌, ◌*◌, ◌≤◌, ◌<◌, List, length};
+ghost use Rattle.std.proofs.Common.{rules};
 ghost use Rattle.decimal.specs.Digits.{Put};
 ghost use Rattle.lines.specs.Lines.{line_of, pieces, lines_to, lines_within};
 
-use desk::Answer;
 use line::{put_bounds, put_refusal};
 
-// The line of block n from `at` on; answers the place behind it.
-fn put_line(out: &mut [u8], at: usize, n: u64, block: &[u8]) -> usize
-    requires { at + 84 ≤ length out.old }
-    ensures put { Put out.old at (line_of n block.now) out.new result }
-    ensures upper_bound { result ≤ at + 84 }
-{
-    let answer = desk::bounds_of_block(block);
-    match answer {
-        Answer::Bounds(bounds) => put_bounds(
-            out,
-            at,
-            n,
-            fields::number_at(block, 4, 4),
-            bounds.lower,
-            bounds.upper,
-        ),
-        Answer::Refused(refusal) => put_refusal(out, at, n, ship::number(refusal) as u64),
-    }
+// What is asked of each block. Its line depends on its number and its own bytes alone.
+pub trait Question {
+    ghost line: { ℕ → List ℕ → List ℕ };
+
+    ghost LONGEST: { ℕ };
+
+    // How many bytes the longest line has.
+    const LONGEST: usize;
+
+    // The line of block n from `at` on; answers the place behind it.
+    fn put_line(out: &mut [u8], at: usize, n: u64, block: &[u8]) -> usize
+        requires { at + LONGEST ≤ length out.old }
+        ensures put { Put out.old at (line n block.now) out.new result }
+        ensures upper_bound { result ≤ at + LONGEST };
+
+    // No line of any question is longer than one with six numbers.
+    ghost fits: { (0 < LONGEST) × (LONGEST ≤ 126) };
 }
 
-// Where the piece from `at` on ends: after 512 bytes, or with the file.
-fn piece_end(at: usize, size: usize) -> usize
-    requires { at ≤ size }
-    ensures value { result ≡ if (ltb (size - at) 512) size (at + 512) }
-    ensures lower_bound { (at ≤ result) × (result ≤ size) }
-{
-    if size - at < 512 {
-        return size;
+// The index of each block, as `fleet` asks.
+pub struct Index;
+
+impl Question for Index {
+    ghost line = { line_of };
+
+    ghost LONGEST = { 84 };
+
+    ghost fits = { Prim.search rules };
+
+    const LONGEST: usize = 84;
+
+    fn put_line(out: &mut [u8], at: usize, n: u64, block: &[u8]) -> usize {
+        match desk::bounds_of_block(block) {
+            Ok(bounds) => put_bounds(
+                out,
+                at,
+                n,
+                fields::number_at(block, 4, 4),
+                bounds.lower,
+                bounds.upper,
+            ),
+            Err(refusal) => put_refusal(out, at, n, u64::from(ship::number(refusal))),
+        }
     }
-    at + 512
 }
 
 // The lines of all the pieces, one after the other.
-fn put_pieces(out: &mut [u8], first: u64, bytes: &[u8], count: usize) -> usize
-    requires { (first < 4294967296) × (count ≡ pieces bytes.now) × (count * 84 ≤ length out.old) }
-    ensures { Put out.old 0 (lines_to first bytes.now count) out.new result }
+fn put_pieces<Q: Question>(out: &mut [u8], first: u32, bytes: &[u8]) -> usize
+    requires { pieces bytes.now * Q.LONGEST ≤ length out.old }
+    ensures { Put out.old 0 (lines_to Q.line first bytes.now (pieces bytes.now)) out.new result }
 {
     let mut end = 0;
-    let mut i = 0;
-    while i < count {
-        let at = i * 512;
-        let to = piece_end(at, bytes.len());
-        end = put_line(out, end, first + i as u64, &bytes[at..to]);
-        i += 1;
+    for (i, block) in bytes.chunks(512).enumerate() {
+        end = Q::put_line(out, end, u64::from(first) + i as u64, block);
     }
     end
 }
 
 // The lines of the blocks in `bytes`, of which the first has the number `first`, at the start of the buffer; answers how many bytes
-// they are. A last piece of less than 512 bytes has its line too. A buffer with less than 84 bytes for each line gets none.
-pub fn put_lines(out: &mut [u8], first: u32, bytes: &[u8]) -> usize
-    ensures { Put out.old 0 (lines_within out.old first bytes.now) out.new result }
+// they are. A last piece of less than 512 bytes has its line too. A buffer with less room than the longest line takes, for each line, gets none.
+pub fn put_lines<Q: Question>(out: &mut [u8], first: u32, bytes: &[u8]) -> usize
+    ensures { Put out.old 0 (lines_within Q.LONGEST out.old Q.line first bytes.now) out.new result }
 {
-    let size = bytes.len();
-    let count = size / 512 + (size % 512 + 511) / 512;
-    if out.len() / 84 < count {
+    if out.len() / Q::LONGEST < bytes.len().div_ceil(512) {
         return 0;
     }
-    put_pieces(out, first as u64, bytes, count)
+    put_pieces::<Q>(out, first, bytes)
 }

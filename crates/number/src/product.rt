@@ -5,7 +5,8 @@ ghost use Rattle.number.specs.Product.{scaled_down, scaled_up};
 
 use crate::division::Quotient;
 
-// n * p over 2^30, by the digits of both above and below 2^30: how often it goes, and what is left.
+// n * p over 2^30, by the digits of both above and below 2^30: how often it goes, and what is left. The bound on n * p stands in three contracts: a
+// struct of two factors would be made for a call and taken apart in it.
 fn divide_product(n: u64, p: u64) -> Quotient
     requires { n * p < 2 ^ 93 }
     ensures { Divided (n * p) (2 ^ 30) result.whole result.rest }
@@ -18,7 +19,7 @@ fn divide_product(n: u64, p: u64) -> Quotient
     }
 }
 
-// n * p / 2^30 rounded down. Emissions and the parts of f_j are small enough: their users show it.
+// n * p / 2^30 rounded down; a function for each way to round, as in `division`. Emissions and the parts of f_j are small enough: their users show it.
 pub fn scaled_down(n: u64, p: u64) -> u64
     requires { n * p < 2 ^ 93 }
     ensures { result ≡ scaled_down n p }
@@ -31,5 +32,5 @@ pub fn scaled_up(n: u64, p: u64) -> u64
     requires { n * p < 2 ^ 93 }
     ensures { result ≡ scaled_up n p }
 {
-    crate::division::rounded_up(divide_product(n, p))
+    divide_product(n, p).rounded_up()
 }

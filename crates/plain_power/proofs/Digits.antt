@@ -187,14 +187,13 @@ raise_held x p rest (suc left) d n ready pos h held =
     rw (all, turns) at (raise_held x (means_of p (digit_factor x (lowest rest))) (higher rest) left (d + lowest rest * n) (n * 2) ready (omega arith) (omega arith) next)
 
 -- One digit, and none.
-pub raise_next : (x p : Pair) (rest left : ℕ) → 0 < left → raise_of x (means_of p (digit_factor x (lowest rest))) (higher rest) (left - 1) ≡ raise_of x p rest left
+pub raise_next : (x p : Pair) (rest i : ℕ) → i < digits → raise_of x (means_of p (digit_factor x (lowest rest))) (higher rest) (digits - (i + 1)) ≡ raise_of x p rest (digits - i)
 unfolding raise_of
-raise_next x p rest zero pos = elim pos [ ]
-raise_next x p rest (suc left) pos = let e : suc left - 1 ≡ left = omega arith in rw e
+raise_next x p rest i more = let e : digits - i ≡ suc (digits - (i + 1)) = omega arith in rw e
 
-pub raise_end : (x p : Pair) (rest left : ℕ) → left ≤ 0 → p ≡ raise_of x p rest left
+pub raise_end : (x p : Pair) (rest i : ℕ) → digits ≤ i → p ≡ raise_of x p rest (digits - i)
 unfolding raise_of
-raise_end x p rest left none = let e : left ≡ 0 = omega arith in rw e
+raise_end x p rest i none = let e : digits - i ≡ 0 = omega arith in rw e
 
 pub raised : (x : Pair) (d : ℕ) → Ready x → d < 2 ^ digits → Held x d (2 ^ digits) (raise_of x (unraised x) d digits)
 raised x d ready h =

@@ -1,7 +1,7 @@
 -- A fraction a/b from 1 upwards as a pair: its leading 31 bits, and one more. Assumes nothing.
 use mathlib.Core.Path.{◌≡◌, ap₂}
 use mathlib.Core.Logic.{inl, inr}
-use Prim.Native.Nat.{ℕ, ◌+◌, ◌*◌, ◌/◌, ◌^◌, ◌≤◌, ◌<◌}
+use Prim.Native.Nat.{ℕ, ◌+◌, ◌-◌, ◌*◌, ◌/◌, ◌^◌, ◌≤◌, ◌<◌}
 use native.Mathlib.Nat.{le_antisymm, le_trans, lt_of_lt_of_le, lt_of_le_of_lt, lt_of_not-le, not-le_of_lt, eq-zero-or-pos, mul-le-mul_right, le_of_suc-le-suc}
 use native.Mathlib.Nat.{suc-pred-eq_of_pos, div-mul-le_self, lt-div-mul-add, le-div_iff_mul-le, div-lt_iff_lt-mul}
 use native.Mathlib.Decide.{dec_le}
@@ -38,14 +38,6 @@ leads_small {v} {r} top c =
       | no h ↦ let x : 2 ^ 51 ≤ 2 ^ (30 + r.e) = pow_mono {i = 51} (omega (arith, lt_of_not-le h)) in omega (arith, leads_from c)
     ]
 
--- Half the mantissa, and one more in the exponent.
-pub leads_half : {v m e : ℕ} → 2 ^ 31 ≤ m → Leads v (num m e) → Leads v (num (m / 2) (e + 1))
-leads_half {v} {m} {e} big c =
-    let w = 2 ^ e in
-    let a : 2 * (m / 2) * w ≤ m * w = mul-le-mul_right w (omega arith) in
-    let b : (m + 1) * w ≤ (2 * (m / 2) + 2) * w = mul-le-mul_right w (omega arith) in
-    record { low = omega arith; at_most = rw (twice e) (omega (arith, c.at_most)); next_above = rw (twice e) (omega (arith, c.next_above)) }
-
 -- ── With 31 bits there is one such number ───────────────────────────────────────────────────
 
 leads_to : {v : ℕ} {r : Num} → r.m < 2 ^ 31 → Leads v r → v < 2 ^ (31 + r.e)
@@ -80,25 +72,36 @@ module _ (v : ℕ) (low : 2 ^ 30 ≤ v) (high : v ≤ 2 ^ 50) where
       same : (e : ℕ) → 31 + e ≡ 30 + (e + 1)
       same e = omega arith
 
+  cut_at : (e : ℕ) → (2 ^ (30 + e) ≤ v) × (v < 2 ^ (31 + e)) → Leads v (num (v / 2 ^ e) e) × (v / 2 ^ e < 2 ^ 31)
+  cut_at e h =
+      let from : 2 ^ 30 * 2 ^ e ≤ v = rw (pow-add 2 30 e) at h.0 in
+      let to : v < 2 ^ 31 * 2 ^ e = rw (pow-add 2 31 e) at h.1 in (
+        record {
+          low = (le-div_iff_mul-le (pow_pos e)).1 from;
+          at_most = div-mul-le_self v (2 ^ e);
+          next_above = omega (arith, lt-div-mul-add {a = v} (pow_pos e));
+        },
+        (div-lt_iff_lt-mul (pow_pos e)).1 to,
+      )
+
   -- It is the one of that name.
   pub cut_is : Leads v (cut_of v) × ((cut_of v).m < 2 ^ 31)
   unfolding cut_of
-  cut_is = go _ (cut_exponent _ (greatest_found (λ e. leb (2 ^ (30 + e)) v) 20))
-    where
-      go : (e : ℕ) → (2 ^ (30 + e) ≤ v) × (v < 2 ^ (31 + e)) → Leads v (num (v / 2 ^ e) e) × (v / 2 ^ e < 2 ^ 31)
-      go e h =
-          let from : 2 ^ 30 * 2 ^ e ≤ v = rw (pow-add 2 30 e) at h.0 in
-          let to : v < 2 ^ 31 * 2 ^ e = rw (pow-add 2 31 e) at h.1 in (
-            record {
-              low = (le-div_iff_mul-le (pow_pos e)).1 from;
-              at_most = div-mul-le_self v (2 ^ e);
-              next_above = omega (arith, lt-div-mul-add {a = v} (pow_pos e));
-            },
-            (div-lt_iff_lt-mul (pow_pos e)).1 to,
-          )
+  cut_is = cut_at _ (cut_exponent _ (greatest_found (λ e. leb (2 ^ (30 + e)) v) 20))
 
-  pub cut_named : {r : Num} → r.m < 2 ^ 31 → Leads v r → r ≡ cut_of v
-  cut_named h c = leads_unique h cut_is.1 c cut_is.0
+  -- Of the m binary digits of v 31 are kept.
+  pub cut_digits : (z m : ℕ) → z + m ≡ 64 → v < 2 ^ m → 2 ^ m ≤ 2 * v + 1 → (z ≤ 33) × (num (v / 2 ^ (33 - z)) (33 - z) ≡ cut_of v)
+  cut_digits z m sum under from =
+      let many : 31 ≤ m = lt_of_not-le (λ (few : m ≤ 30). not-le_of_lt under (le_trans (pow_mono few) low)) in
+      (omega arith, go (33 - z) (omega arith))
+    where
+      go : (e : ℕ) → m ≡ 30 + e + 1 → num (v / 2 ^ e) e ≡ cut_of v
+      go e digits =
+          let to : v < 2 ^ (30 + e + 1) = rw digits at under in
+          let half : 2 * 2 ^ (30 + e) ≤ 2 * v + 1 = rw (digits, twice (30 + e)) at from in
+          let same : 30 + e + 1 ≡ 31 + e = omega arith in
+          let found = cut_at e (omega arith, rw same at to) in
+          leads_unique found.1 cut_is.1 found.0 cut_is.0
 
 -- ── The fraction between two numbers ────────────────────────────────────────────────────────
 

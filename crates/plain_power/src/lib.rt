@@ -5,19 +5,22 @@
 ghost use Rattle.std.specs.Prelude.{◌≡◌, ◌+◌, ◌*◌, ◌^◌, ◌≤◌, ◌<◌};
 ghost use Rattle.root.specs.Root.{Root};
 ghost use Rattle.plain_power.specs.Numbers.{val, Norm, Ready};
-ghost use Rattle.plain_power.specs.Steps.{evened_of, mean_of, means_of, digit_factor, unraised, raise_of, digits, cut_of, base_of};
+ghost use Rattle.plain_power.specs.Steps.{next, evened_of, mean_of, means_of, digit_factor, unraised, raise_of, digits, cut_of, base_of};
 ghost use Rattle.power.specs.Power.{Raisable};
 ghost use Rattle.plain_power.specs.Plain.{plain_of};
 
 use power::Bounds;
 
-// m * 2^e, in units of 2^-30.
+// m * 2^e, in units of 2^-30. (`Norm` is no field: it would be proved at ONE, `cut`, `next` and `mean`, four places, to be left out at three; and
+// `next` of the definitions takes any mantissa.)
 #[derive(Clone, Copy)]
 struct Num {
     pub m: u64,
     pub e: u64,
 }
 
+// No `Bounds`, whose ends are whole numbers: as `Bounds<Num>` each definition of the power, the speed and the index would have to name the type of
+// its ends.
 #[derive(Clone, Copy)]
 struct Pair {
     pub lo: Num,
@@ -31,7 +34,8 @@ struct Square {
     pub f: u64,
 }
 
-// p * 2^e with an even exponent and 61 or 62 bits; 2^62, which has one bit more, counts as one less.
+// p * 2^e with an even exponent and 61 or 62 bits; 2^62, which has one bit more, counts as one less. (The bounds of p stand at each use: p is one
+// product in `mean`, and a type of it would be opened in `evened_of`, which takes a number.)
 fn evened(p: u64, e: u64) -> Square
     requires { (2 ^ 60 ≤ p) × (p ≤ 2 ^ 62) × (e ≤ 40) }
     ensures { result ≡ evened_of p e }
@@ -104,106 +108,109 @@ fn mantissa(n: u64, near: u64) -> u64
     root::square_root_from(n, (near + n / near) / 2)
 }
 
-// The geometric mean, rounded down. The start is found from the product itself, so that it need not wait for the even exponent.
-fn mean(a: Num, b: Num) -> Num
-    requires { Norm a × Norm b }
-    ensures { result ≡ mean_of a b }
-{
-    let p = a.m * b.m;
-    let e = a.e + b.e;
-    let s = evened(p, e);
-    let near = near_root(p, e % 2);
-    let m = mantissa(s.n, near);
-    Num { m, e: s.f }
-}
-
-// The means of two pairs, the lower rounded down and the upper up. Neither waits for the other.
-fn means(p: Pair, y: Pair) -> Pair
-    requires { (Norm p.lo × Norm p.hi) × (Norm y.lo × Norm y.hi) }
-    ensures { result ≡ means_of p y }
-{
-    let lo = mean(p.lo, y.lo);
-    let top = mean(p.hi, y.hi);
-    let hi = Num {
-        m: top.m + 1,
-        e: top.e,
-    };
-    Pair { lo, hi }
-}
-
-// The factor of a digit of the exponent: the base or 1.
-fn factor(x: Pair, digit: u64) -> Pair
-    ensures { result ≡ digit_factor x digit }
-{
-    if digit == 0 {
-        let one = Num {
-            m: 1073741824,
-            e: 0,
-        };
-        Pair { lo: one, hi: one }
-    } else {
-        x
-    }
-}
-
-// x to the power d / 2^35, from the lowest digit of d upwards: one running pair, of which each digit takes the means with its factor.
-fn raise(x: Pair, d: u64) -> Pair
-    requires { Ready x }
-    ensures { result ≡ raise_of x (unraised x) d digits }
-{
-    let lo = Num {
+impl Num {
+    const ONE: Num = Num {
         m: 1073741824,
         e: 0,
     };
-    let hi = x.hi;
-    let mut p = Pair { lo, hi };
-    let mut rest = d;
-    let mut left: u64 = 35;
-    while 0 < left {
-        let y = factor(x, rest % 2);
-        p = means(p, y);
-        rest = rest / 2;
-        left -= 1;
+
+    // v with its mantissa rounded down.
+    fn cut(v: u64) -> Num
+        requires { (2 ^ 30 ≤ v) × (v ≤ 2 ^ 50) }
+        ensures { result ≡ cut_of v }
+    {
+        let e = 33 - v.leading_zeros() as u64;
+        Num { m: v >> e, e }
     }
-    p
-}
 
-// v with its mantissa rounded down.
-fn cut(v: u64) -> Num
-    requires { (2 ^ 30 ≤ v) × (v ≤ 2 ^ 50) }
-    ensures { result ≡ cut_of v }
-{
-    let mut m = v;
-    let mut e: u64 = 0;
-    while 2147483648 <= m {
-        m = m / 2;
-        e += 1;
+    // With one more in its mantissa.
+    fn next(self) -> Num
+        requires { self.m < 2 ^ 31 }
+        ensures { result ≡ next self }
+    {
+        Num {
+            m: self.m + 1,
+            e: self.e,
+        }
     }
-    Num { m, e }
+
+    // The geometric mean, rounded down. The start is found from the product itself, so that it need not wait for the even exponent.
+    fn mean(self, b: Num) -> Num
+        requires { Norm self × Norm b }
+        ensures { result ≡ mean_of self b }
+    {
+        let p = self.m * b.m;
+        let e = self.e + b.e;
+        let s = evened(p, e);
+        let near = near_root(p, e % 2);
+        let m = mantissa(s.n, near);
+        Num { m, e: s.f }
+    }
+
+    // m * 2^e as a whole number.
+    fn whole(self) -> u64
+        requires { Norm self }
+        ensures { result ≡ val self }
+    {
+        self.m << self.e
+    }
 }
 
-// The fraction a/b between two numbers.
-fn base(a: u64, b: u64) -> Pair
-    requires { (1 ≤ b) × (b ≤ a) × (a ≤ b * 2 ^ 20) × (a < 2 ^ 32) }
-    ensures { result ≡ base_of a b }
-{
-    let lo = cut(a * 1073741824 / b);
-    let hi = Num {
-        m: lo.m + 1,
-        e: lo.e,
-    };
-    Pair { lo, hi }
+impl Pair {
+    // The fraction a/b between two numbers.
+    fn of_fraction(a: u64, b: u64) -> Pair
+        requires { (1 ≤ b) × (b ≤ a) × (a ≤ b * 2 ^ 20) × (a < 2 ^ 32) }
+        ensures { result ≡ base_of a b }
+    {
+        let lo = Num::cut(a * 1073741824 / b);
+        Pair { lo, hi: lo.next() }
+    }
+
+    // The means of two pairs, the lower rounded down and the upper up. Neither waits for the other.
+    fn means(self, y: Pair) -> Pair
+        requires { (Norm self.lo × Norm self.hi) × (Norm y.lo × Norm y.hi) }
+        ensures { result ≡ means_of self y }
+    {
+        Pair {
+            lo: self.lo.mean(y.lo),
+            hi: self.hi.mean(y.hi).next(),
+        }
+    }
+
+    // The factor of a digit of the exponent: the base or 1.
+    fn factor(self, digit: u64) -> Pair
+        ensures { result ≡ digit_factor self digit }
+    {
+        if digit == 0 {
+            Pair {
+                lo: Num::ONE,
+                hi: Num::ONE,
+            }
+        } else {
+            self
+        }
+    }
+
+    // To the power d / 2^35, from the lowest digit of d upwards: one running pair, of which each digit takes the means with its factor.
+    fn raise(self, d: u64) -> Pair
+        requires { Ready self }
+        ensures { result ≡ raise_of self (unraised self) d digits }
+    {
+        let mut p = Pair {
+            lo: Num::ONE,
+            hi: self.hi,
+        };
+        let mut rest = d;
+        for _ in 0..35u64 {
+            let y = self.factor(rest % 2);
+            p = p.means(y);
+            rest = rest / 2;
+        }
+        p
+    }
 }
 
-// m * 2^e as a whole number.
-fn whole(n: Num) -> u64
-    requires { Norm n }
-    ensures { result ≡ val n }
-{
-    n.m << n.e
-}
-
-// (a/b)^(p/q), from below and from above; a power of 1 is 1.
+// (a/b)^(p/q), from below and from above; a power of 1 is 1, its bounds written out as in `power`.
 pub fn power(a: u64, b: u64, p: u64, q: u64) -> Bounds
     requires { Raisable a b p q }
     ensures { result ≡ plain_of a b p q }
@@ -214,10 +221,9 @@ pub fn power(a: u64, b: u64, p: u64, q: u64) -> Bounds
             hi: 1073741824,
         };
     }
-    let x = base(a, b);
-    let r = raise(x, p * 34359738368 / q);
+    let r = Pair::of_fraction(a, b).raise(p * 34359738368 / q);
     Bounds {
-        lo: whole(r.lo),
-        hi: whole(r.hi),
+        lo: r.lo.whole(),
+        hi: r.hi.whole(),
     }
 }

@@ -9,6 +9,8 @@ use Rattle.ship.specs.declared.Engine as entry
 use Rattle.ship.specs.declared.Range as record_range
 use Rattle.ship.specs.Figures.{Fuelled, engine_of}
 use Rattle.ship.specs.Accepted.{Rated}
+use Rattle.plant.specs.declared.End.{End}
+use Rattle.plant.specs.declared.End.TheVariants.{Low, High}
 use Rattle.plant.specs.declared.Sums.{Sums}
 use Rattle.plant.specs.declared.Emitted.{Emitted}
 
@@ -16,6 +18,11 @@ use Rattle.plant.specs.declared.Emitted.{Emitted}
 abbrev pub end : Bool → Range → ℕ
 end true = high
 end false = low
+
+-- Whether an end as the code has it is the high one.
+abbrev pub top : End → Bool
+top Low = false
+top High = true
 
 -- A ship at one end of every range, of the speed at the other: `at_end false` is the most favourable, `at_end true` the least.
 abbrev pub at_end : Bool → Figures Range → Figures ℕ

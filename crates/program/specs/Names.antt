@@ -2,10 +2,10 @@
 -- Assumes nothing.
 use Rattle.std.specs.Prelude.{ℕ, List}
 use Rattle.streams.specs.Streams.{bytes_of}
-use Rattle.asked_lines.specs.declared.Asked.{Asked}
-use Rattle.asked_lines.specs.declared.Asked.TheVariants.{Index, Speed}
 
--- The program that asks so.
-abbrev pub name_of : Asked → List ℕ
-name_of Index = bytes_of "fleet"
-name_of Speed = bytes_of "speeds"
+-- The one that asks for the index, and the one that asks for the speed.
+abbrev pub fleet_name : List ℕ
+fleet_name = bytes_of "fleet"
+
+abbrev pub speeds_name : List ℕ
+speeds_name = bytes_of "speeds"

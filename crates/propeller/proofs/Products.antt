@@ -10,7 +10,7 @@ use Rattle.number.specs.Division.{Floor, Ceil, ceil_of}
 use Rattle.number.specs.Ratio.{Moderate, CubeRoot, cube_root_of}
 use Rattle.number.proofs.Divisions.{floor_is, ceil_is, floor_named, ceil_named, floor_cancel, ceil_cancel}
 use Rattle.number.proofs.Gaps.{Gap, gap_product, gap_rounded}
-use Rattle.number.proofs.Ratios.{cube_root_of_is, root_low, root_high, root_near, units_some, units_few}
+use Rattle.number.proofs.Ratios.{cube_root_of_is, root_low, root_high, root_near, units_some}
 use Rattle.power.specs.declared.Bounds.{Bounds}
 use Rattle.propeller.specs.declared.Split.{Split}
 use Rattle.propeller.specs.Propeller.{pair, Parted, speed_from}
@@ -48,9 +48,6 @@ module _ {s : Split} {n d : ℕ} (p : Parted s) (m : Moderate n d) where
 
   pub scale_some : 0 < (cube_root_of n d).scale * 1000
   scale_some = omega (arith, units_some m.some root)
-
-  pub scale_few : (cube_root_of n d).scale * 1000 ≤ 2 ^ 40
-  scale_few = omega (arith, units_few m.some root)
 
   over_some : 0 < s.over.lo * ((cube_root_of n d).scale * 1000)
   over_some = mul-pos (omega (arith, p.over_low)) scale_some

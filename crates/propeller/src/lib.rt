@@ -1,8 +1,8 @@
 // The propeller law, by which a speed goes with the cube root of the power: in millionths of a knot, from below and from above.
 #![tactic(auto)]
 
-ghost use Rattle.std.specs.Prelude.{◌≡◌, ◌*◌, ◌/◌, ◌^◌, ◌≤◌, ◌<◌};
-ghost use Rattle.number.specs.Division.{Floor, Ceil, ceil_of};
+ghost use Rattle.std.specs.Prelude.{◌≡◌, ◌*◌, ◌^◌, ◌≤◌, ◌<◌};
+ghost use Rattle.number.specs.Division.{Floor, Ceil};
 ghost use Rattle.number.specs.Ratio.{Moderate};
 ghost use Rattle.propeller.specs.Propeller.{Parted, speed_from};
 
@@ -10,7 +10,7 @@ use number::division::Rounded;
 use power::Bounds;
 
 // A speed in 10^-9 knot, and what it is still to be divided by, in 2^-30.
-#[derive(Drop)]
+#[derive(Clone, Copy, Debug, PartialEq, Eq)]
 pub struct Split {
     pub base: Bounds,
     pub over: Bounds,
@@ -28,24 +28,6 @@ fn quotient(x: u64, w: u64) -> Rounded
     number::division::both_scaled(x, w, 32768, 2)
 }
 
-// x * 2^30 / (w * m), rounded down: by w to 62 bits, then by m, which is one rounding.
-fn quotient_down(x: u64, w: u64, m: u64) -> u64
-    requires { (2 ^ 30 ≤ w) × (w ≤ 2 ^ 51) × (x < 2 ^ 62) × (0 < m) }
-    ensures { result ≡ x * 2 ^ 30 / (w * m) }
-{
-    let q = quotient(x, w);
-    q.down / m
-}
-
-// x * 2^30 / (w * m), rounded up.
-fn quotient_up(x: u64, w: u64, m: u64) -> u64
-    requires { (2 ^ 30 ≤ w) × (w ≤ 2 ^ 51) × (x < 2 ^ 62) × (0 < m) × (m ≤ 2 ^ 40) }
-    ensures { result ≡ ceil_of (x * 2 ^ 30) (w * m) }
-{
-    let q = quotient(x, w);
-    (q.up + (m - 1)) / m
-}
-
 // The shape that methods 2 to 4 share: base / over times the cube root of n / d. Each method shows that its parts are in bounds.
 pub fn speed_from(s: Split, n: u64, d: u64) -> Bounds
     requires { Parted s × Moderate n d }
@@ -53,9 +35,9 @@ pub fn speed_from(s: Split, n: u64, d: u64) -> Bounds
 {
     let r = number::ratio::cube_root(n, d);
     let m = r.scale * 1000;
-    let base = s.base;
-    let over = s.over;
-    let lo = quotient_down(base.lo * r.low, over.hi, m);
-    let hi = quotient_up(base.hi * r.high, over.lo, m);
+    let Split { base, over } = s;
+    // By the divisor to 62 bits, then by m: two roundings the same way are one.
+    let lo = quotient(base.lo * r.low, over.hi).down / m;
+    let hi = quotient(base.hi * r.high, over.lo).up.div_ceil(m);
     Bounds { lo, hi }
 }

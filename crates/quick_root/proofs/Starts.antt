@@ -1,40 +1,17 @@
 -- The start that the table gives: how often n is divided by 8, and that it is not below the root. Assumes nothing.
-use mathlib.Core.Path.{◌≡◌, refl, sym, ap, ◌∙◌}
-use mathlib.Core.Bool.{Bool, true, false}
-use mathlib.Core.Logic.{inl, inr}
-use Prim.Native.Nat.{ℕ, suc, ◌+◌, ◌-◌, ◌*◌, ◌/◌, ◌%◌, ◌^◌, ◌≤◌, ◌<◌, zero-le}
-use native.Mathlib.Nat.{eq-zero-or-pos, le_trans, le_of_lt, lt_of_lt_of_le, lt_of_le_of_lt, lt_of_not-le, not-le_of_lt, mul-le-mul_right, lt-div-mul-add, div-lt_iff_lt-mul, pow-le-pow_left}
+use mathlib.Core.Path.{◌≡◌, sym, ap, ◌∙◌}
+use Prim.Native.Nat.{ℕ, ◌+◌, ◌-◌, ◌*◌, ◌/◌, ◌%◌, ◌^◌, ◌≤◌, ◌<◌, min}
+use native.Mathlib.Nat.{le_trans, le_of_lt, lt_of_lt_of_le, lt_of_not-le, not-le_of_lt, mul-le-mul_right, lt-div-mul-add, min-eq_left, min-eq_right, div-lt_iff_lt-mul, pow-le-pow_left}
 use native.Mathlib.Omega.{arith}
-use lib.Dec.{ltb, lit≤, lit<}
+use native.Mathlib.Decide.{dec_le}
+use lib.Dec.{lit≤}
 use lib.Pow.{pow-add, pow_mono, pow_pos, shl_exact}
-use lib.Count.{count_leading_zeros, leading_of_zero, leading_top}
-use borrow.Author.Tests.{ltb-true, lt-ltb, le-ltb}
-use Rattle.formula.specs.Words.{if}
 use Rattle.formula.proofs.Wholes.{mul_pow, pow_mul, pow_swap}
 use Rattle.root.specs.Root.{Root, root_of}
 use Rattle.root.proofs.Roots.{root_of_is, root_named, root_below}
 use Rattle.quick_root.specs.Start.{Eighths, start_of, Start}
 
 -- ── How often n is divided ──────────────────────────────────────────────────────────────────
-
--- z zeros stand before the first binary digit of n, in a word of 64.
-pub record Zeros (n z : ℕ) : Type 0 where
-  pub few : z ≤ 64
-  pub below : n < 2 ^ (64 - z)
-  pub from : z < 64 → 2 ^ (63 - z) ≤ n
-
-pub zeros_of : (n : ℕ) → n < 2 ^ 64 → Zeros n (count_leading_zeros 64 n)
-zeros_of n fits = elim (eq-zero-or-pos n) [ inl e ↦ none e | inr pos ↦ some (count_leading_zeros 64 n) (leading_top 64 n pos fits) ]
-  where
-    none : n ≡ 0 → Zeros n (count_leading_zeros 64 n)
-    none e = rw (e, leading_of_zero 64) (record { few = omega arith; below = lit< tt; from = λ h. absurd (omega arith) })
-
-    some : (z : ℕ) → (j : ℕ) × (z + suc j ≡ 64) × (2 ^ j ≤ n) × (n < 2 ^ suc j) → Zeros n z
-    some z t =
-        let sum : z + suc t.0 ≡ 64 = t.1 in
-        let next : 64 - z ≡ suc t.0 = omega arith in
-        let first : 63 - z ≡ t.0 = omega arith in
-        record { few = omega arith; below = rw next t.3; from = λ h. rw first t.2 }
 
 -- 1,024 times so many eights is a power of 2.
 eights : (k : ℕ) → 1024 * 8 ^ k ≡ 2 ^ (10 + 3 * k)
@@ -43,19 +20,20 @@ eights k = ap (λ (z : ℕ). 1024 * z) (pow_mul 2 3 k) ∙ sym (pow-add 2 10 (3 
 some_eights : (k : ℕ) → 0 < 8 ^ k
 some_eights k = rw (pow_mul 2 3 k) (pow_pos (3 * k))
 
-pub eighths_of : {n z k : ℕ} → Zeros n z → z < 64 → 64 - z ≤ 10 + 3 * k → 3 * k ≤ 56 - z → Eighths n k
-eighths_of {n} {z} {k} h some wide narrow =
-    record {
-      enough = rw (eights k) (lt_of_lt_of_le h.below (pow_mono wide));
-      fewest = λ j below.
-          let less : 63 - z < 10 + 3 * j = lt_of_not-le (λ le. not-le_of_lt (lt_of_le_of_lt (h.from some) (rw (eights j) at below)) (pow_mono le)) in
-          omega arith;
-    }
-
-pub none_of : {n z : ℕ} → Zeros n z → 56 ≤ z → Eighths n 0
-none_of {n} {z} h many =
-    let narrow : 64 - z ≤ 8 = omega arith in
-    record { enough = lt_of_lt_of_le h.below (le_trans (pow_mono {i = 64 - z} {j = 8} narrow) (lit≤ tt)); fewest = λ j below. zero-le }
+-- n has m binary digits, and z zeros stand before them in a word of 64.
+pub counted : {n : ℕ} (z m : ℕ) → z + m ≡ 64 → n < 2 ^ m → 2 ^ m ≤ 2 * n + 1 → Eighths n ((56 - z) / 3)
+counted {n} z m sum under from = go ((56 - z) / 3) (omega arith) (omega arith)
+  where
+    go : (k : ℕ) → m ≤ 10 + 3 * k → 3 * k ≤ m - 8 → Eighths n k
+    go k wide narrow =
+        record {
+          enough = rw (eights k) (lt_of_lt_of_le under (pow_mono wide));
+          fewest = λ j below.
+              let double : 2 ^ (1 + (10 + 3 * j)) ≡ 2 * 2 ^ (10 + 3 * j) = pow-add 2 1 (10 + 3 * j) in
+              let small : n < 2 ^ (10 + 3 * j) = rw (eights j) at below in
+              let less : m < 1 + (10 + 3 * j) = lt_of_not-le (λ le. not-le_of_lt (omega arith) (le_trans (pow_mono le) from)) in
+              omega arith;
+        }
 
 -- ── The entry ───────────────────────────────────────────────────────────────────────────────
 
@@ -95,12 +73,12 @@ uncapped n k t root =
     above n (n / 8 ^ k) (2 ^ k) t ((t + 1) * 2 ^ k / 1024) (rw (pow_swap 2 k 3) below) root.next_above (omega arith)
 
 -- The largest root of 64 bits is above as well.
-capped : (n x : ℕ) → n < 2 ^ 64 → n < (x + 1) ^ 3 → (n < (if (ltb x 2642245) x 2642245 + 1) ^ 3) × (if (ltb x 2642245) x 2642245 ≤ 2642245)
-capped n x fits h = go (ltb x 2642245) refl
-  where
-    go : (b : Bool) → ltb x 2642245 ≡ b → (n < (if b x 2642245 + 1) ^ 3) × (if b x 2642245 ≤ 2642245)
-    go true e = (h, le_of_lt (ltb-true _ _ e))
-    go false e = (lt_of_lt_of_le fits (lit≤ tt), lit≤ tt)
+capped : (n x : ℕ) → n < 2 ^ 64 → n < (x + 1) ^ 3 → (n < (min x 2642245 + 1) ^ 3) × (min x 2642245 ≤ 2642245)
+capped n x fits h =
+    elim (dec_le x 2642245) [
+      | yes i ↦ rw (min-eq_left i) (h, i)
+      | no i ↦ rw (min-eq_right {n = 2642245} {m = x} (le_of_lt (lt_of_not-le i))) (lt_of_lt_of_le fits (lit≤ tt), lit≤ tt)
+    ]
 
 pub start_above : {n x : ℕ} → n < 2 ^ 64 → Start n x → (n < (x + 1) ^ 3) × (x ≤ 2642245)
 unfolding start_of
@@ -116,12 +94,6 @@ module _ {n k t : ℕ} (fits : n < 2 ^ 64) (divided : Eighths n k) (root : Root 
       let small = entry_small root (entry_number divided) in
       rw (moved_up small (times_few fits divided), root_named (omega arith) (rw (moved_down n k) at root))
 
-  given : (y x : ℕ) → y ≡ (t + 1) * 2 ^ k % 2 ^ 64 / 1024 → x ≡ if (ltb y 2642245) y 2642245 → Start n x
+  pub started : (y : ℕ) → y ≡ min ((t + 1) * 2 ^ k % 2 ^ 64 / 1024) 2642245 → Start n y
   unfolding start_of
-  given y x raised e = record { times = k; divided = divided; is = e ∙ ap (λ (y : ℕ). if (ltb y 2642245) y 2642245) (raised ∙ named) }
-
-  pub started : (y : ℕ) → y < 2642245 → y ≡ (t + 1) * 2 ^ k % 2 ^ 64 / 1024 → Start n y
-  started y below raised = given y y raised (simp (lt-ltb y 2642245 below))
-
-  pub started_largest : (y : ℕ) → 2642245 ≤ y → y ≡ (t + 1) * 2 ^ k % 2 ^ 64 / 1024 → Start n 2642245
-  started_largest y from raised = given y 2642245 raised (simp (le-ltb y 2642245 from))
+  started y e = record { times = k; divided = divided; is = e ∙ ap (λ (x : ℕ). min x 2642245) named }

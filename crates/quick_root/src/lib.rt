@@ -8,8 +8,7 @@ ghost use Rattle.quick_root.specs.Start.{Eighths, Start};
 fn eighths(n: u64) -> u64
     ensures { Eighths n result }
 {
-    let zeros = u64::leading_zeros(n) as u64;
-    if zeros < 56 { (56 - zeros) / 3 } else { 0 }
+    56u64.saturating_sub(n.leading_zeros() as u64) / 3
 }
 
 // A start that is not below the root, by the entry for the first digits of n.
@@ -17,8 +16,8 @@ fn start(n: u64) -> u64
     ensures { Start n result }
 {
     let k = eighths(n);
-    let x = ((root_table::entry((n >> (3 * k)) + 1) + 1) << k) / 1024;
-    if x < 2642245 { x } else { 2642245 }
+    let entry = root_table::entry((n >> (3 * k)) + 1);
+    (((entry + 1) << k) / 1024).min(2642245)
 }
 
 // The whole cube root, the same number as `root::cube_root` finds digit after digit.
@@ -26,6 +25,7 @@ pub fn cube_root(n: u64) -> u64
     ensures { Root 3 n result }
 {
     let mut r = start(n);
+    // Until it is the root, and not for so many turns: no `for`.
     while n < r * r * r {
         r = (2 * r + n / (r * r)) / 3;
     }

@@ -4,7 +4,7 @@ use Prim.Native.Nat.{ℕ, ◌+◌, ◌*◌, ◌^◌, ◌<◌}
 use lib.Dec.{T, leb, ltb, leb→le, ltb→lt}
 use Rattle.formula.proofs.Tables.{both, both_left, both_right, at}
 use Rattle.root.specs.Root.{Root}
-use Rattle.root_table.specs.Table.{rows, entry_of}
+use Rattle.root_table.specs.Table.{entries, entry_of}
 
 root? : (n r : ℕ) → Bool
 root? n r = both (leb (r ^ 3) n) (ltb n ((r + 1) ^ 3))
@@ -18,5 +18,5 @@ is_root n r t =
 
 -- Entry i is the whole cube root of i times 2^30.
 pub entry_root : (i : ℕ) → i < 1025 → Root 3 (i * 2 ^ 30) (entry_of i)
-unfolding root? rows entry_of
+unfolding root? entries entry_of
 entry_root i h = is_root (i * 2 ^ 30) (entry_of i) (at (λ i. root? (i * 2 ^ 30) (entry_of i)) 1025 tt i h)

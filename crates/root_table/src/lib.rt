@@ -6,10 +6,12 @@ ghost use Rattle.root.specs.Root.{Root};
 
 mod table;
 
+use crate::table::ROOTS;
+
 // Entry i: the greatest whole number whose cube is at most i times 2^30.
 pub fn entry(i: u64) -> u64
     requires { i ≤ 1024 }
     ensures { Root 3 (i * 2 ^ 30) result }
 {
-    (table::row(i / 4) >> (16 * (i % 4))) % 65536
+    ROOTS[i as usize] as u64
 }

@@ -1,48 +1,38 @@
 -- A record by methods 1 to 3 is accepted with its speed declared too. Assumes nothing.
 use Prim.Native.Nat.{ℕ, zero, suc}
 use mathlib.Core.Path.{◌≡◌, refl}
-use mathlib.Core.Bool.{Bool, true, false, ◌&&◌, ◌||◌, not}
+use mathlib.Core.Bool.{Bool, true, ◌&&◌, ◌||◌}
 use native.Mathlib.Omega.{arith}
 use lib.Dec.{eqb, ltb}
 use lib.ListN.{get_or}
+use Rattle.std.specs.Prelude.{None}
 use Rattle.exact.specs.Ship as exact
 use Rattle.exact.specs.Index.{AsRecorded, without_trial, at_P_ME, at_P_ME_and_Capacity}
 use Rattle.exact.specs.Ranges as ranges
 use Rattle.exact.specs.Ranges.{method_at}
 use Rattle.ship.specs.Record.{no_engine, no_trial, declared_record}
-use Rattle.ship.specs.Figures.{last_edition, method_of}
-use Rattle.ship.specs.Rules.{outside, between, nonzero, any_used, speed_refused, crossed, range_refused, engine_crossed, ranges_refused}
-use Rattle.ship.specs.Rules.{trial_refused, not_new, edition_refused, refusal_of}
+use Rattle.ship.specs.Figures.{method_of}
+use Rattle.ship.specs.Rules.{between, speed_refused, crossed, range_refused, engine_crossed, ranges_refused}
+use Rattle.ship.specs.Rules.{trial_refused, edition_refused, refusal_of}
 use Rattle.ship.specs.Accepted.{Within}
 use Rattle.ship.specs.declared.Range.{Range}
 use Rattle.ship.specs.declared.Engine.{Engine}
 use Rattle.ship.specs.declared.Trial.{Trial}
 use Rattle.ship.specs.declared.Ship.{Ship}
-use Rattle.ship.specs.declared.Refusal.TheVariants as refusal
-use Rattle.ship.proofs.Tests.{neither, not_with}
 use Rattle.ship.proofs.Right.{no_refusal, changed_accepted}
-use Rattle.ship.proofs.Ends.{Fails, either, or', and', same}
+use Rattle.ship.proofs.Ends.{Fails, or', and', same}
 
 -- ── Rule by rule ────────────────────────────────────────────────────────────────────────────
 
 speed : (method kind : ℕ) (r : Range) → between 1 3 method ≡ true → Fails (speed_refused method kind r) → Fails (speed_refused 1 kind r)
-speed method kind r sailed p =
-    let wrong = outside 1 4 method || eqb method 3 && (not (eqb kind 1) && not (eqb kind 3) && not (eqb kind 4)) in
-    let ends = outside 500 6000 r.low || outside 500 6000 r.high in
-    let k = neither (wrong || between 1 3 method && ends) (eqb method 4 && (nonzero r.low || nonzero r.high)) p in
-    either (not_with (between 1 3 method) ends (neither wrong (between 1 3 method && ends) k.0).1 sailed) refl
+speed method kind r sailed p = grind arith
 
 -- A range that had to be one number by a method no longer has to.
 looser : (by_method by_type : Bool) (r : Range) → Fails (range_refused (by_method || by_type) r) → Fails (range_refused by_type r)
-looser by_method by_type r = or' (same (crossed r)) (dropped by_method by_type (not (eqb r.low r.high)))
-  where
-    dropped : (a b c : Bool) → Fails ((a || b) && c) → Fails (b && c)
-    dropped true true c p = p
-    dropped true false c p = refl
-    dropped false b c p = p
+looser by_method by_type r p = grind arith
 
 engine : (method : ℕ) (e : Engine) → Fails (engine_crossed method e) → Fails (engine_crossed 1 e)
-engine method e = or' (or' (same (crossed e.mcr)) (λ p. refl)) (same (crossed e.uses.sfc))
+engine method e p = grind arith
 
 crossings : (s : Ship) → Fails (ranges_refused s) → Fails (ranges_refused (declared_record s))
 crossings s =
@@ -57,11 +47,9 @@ crossings s =
 
 edition : (s : Ship) → Fails (edition_refused s) → Fails (edition_refused (declared_record s))
 unfolding edition_refused
-edition s =
-    let number = s.particulars.build.edition in
-    or' (same (ltb last_edition number)) (and' (nonzero number) (λ p. either (neither (any_used not_new s.particulars.used s.engines || eqb s.auxiliary.source 3) _ p).0 refl))
+edition s p = grind arith
 
-pub declared_accepted : (s : Ship) → between 1 3 s.particulars.method ≡ true → refusal_of s ≡ refusal.None → refusal_of (declared_record s) ≡ refusal.None
+pub declared_accepted : (s : Ship) → between 1 3 s.particulars.method ≡ true → refusal_of s ≡ None → refusal_of (declared_record s) ≡ None
 unfolding trial_refused
 declared_accepted s sailed none =
     let p = s.particulars in

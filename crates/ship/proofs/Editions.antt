@@ -2,12 +2,13 @@
 -- Assumes nothing.
 use Prim.Native.Nat.{ℕ, zero, suc, ◌*◌, ◌≤◌}
 use mathlib.Core.Path.{◌≡◌, refl, ap}
-use mathlib.Core.Bool.{false, ◌||◌, not}
+use mathlib.Core.Bool.{false, ◌||◌}
 use mathlib.Core.List.{List, ◌++◌}
 use native.Mathlib.Omega.{arith}
 use borrow.Author.Tests.{le-ltb, ne_eqb}
-use lib.Dec.{eqb, ltb}
+use lib.Dec.{eqb}
 use lib.ListN.{length, get_or}
+use Rattle.std.specs.Prelude.{None}
 use Rattle.exact.specs.Ship as exact
 use Rattle.exact.specs.Index.{P_ME, emission, strengthened, f_m}
 use Rattle.exact.specs.Ranges as ranges
@@ -16,30 +17,22 @@ use Rattle.exact.proofs.Rules.{P_ME_unlimited, f_m_other}
 use Rattle.ship.specs.Record.{no_engine, in_class, in_edition}
 use Rattle.ship.specs.Refusals.{first_of}
 use Rattle.ship.specs.Figures.{last_ice, ice_of, last_edition, edition_of, range_of, uses_of, engine_of, method_of, figures}
-use Rattle.ship.specs.Rules.{nonzero, between, any_used, shaped, built, trial_refused, build_refused, not_new, edition_refused, hull_tests, plant_tests, trial_tests, refusal_of}
+use Rattle.ship.specs.Rules.{between, any_used, built, trial_refused, build_refused, not_new, edition_refused, hull_tests, plant_tests, trial_tests, refusal_of}
 use Rattle.ship.specs.Accepted as accepted
 use Rattle.ship.specs.Accepted.{Within, Sourced, NewEngine, NewShip}
 use Rattle.ship.specs.declared.Consumption.{Consumption}
 use Rattle.ship.specs.declared.Engine.{Engine}
 use Rattle.ship.specs.declared.Build.{Build}
 use Rattle.ship.specs.declared.Ship.{Ship}
-use Rattle.ship.specs.declared.Refusal.TheVariants as refusal
-use Rattle.ship.proofs.Tests.{neither, not_with, and_false, is_zero, each_used}
+use Rattle.ship.proofs.Tests.{neither, not_with, each_used}
 use Rattle.ship.proofs.Figured.{each_main}
-use Rattle.ship.proofs.Right.{by_method, no_refusal, changed_accepted, numbers_accepted}
+use Rattle.ship.proofs.Right.{no_refusal, changed_accepted, numbers_accepted}
 
 -- ── f_m by number ───────────────────────────────────────────────────────────────────────────
 
 pub first_without : (edition ice : ℕ) → edition ≡ 1 → f_m (edition_of edition) (ice_of ice) ≡ 100
 unfolding f_m
 first_without edition ice h = rw h
-
-pub class_1_with : (edition ice : ℕ) → (edition ≡ 1 → ⊥) → ice ≡ 1 → f_m (edition_of edition) (ice_of ice) ≡ 105
-unfolding f_m strengthened
-class_1_with zero ice n h = rw h
-class_1_with (suc zero) ice n h = absurd (n refl)
-class_1_with (suc (suc zero)) ice n h = rw h
-class_1_with (suc (suc (suc edition))) ice n h = rw h
 
 not_strengthened : (ice : ℕ) → (ice ≡ 1 → ⊥) → strengthened (ice_of ice) ≡ 100
 unfolding strengthened
@@ -55,13 +48,9 @@ others_without edition ice n = f_m_other (edition_of edition) (ice_of ice) (not_
 
 not_built : (b : Build) → built b ≡ false → b.edition ≡ 0
 unfolding built
-not_built b e =
-    let d = neither (nonzero b.edition || nonzero b.lightweight || shaped b.hull || nonzero b.cranes) _ e in
-    let c = neither (nonzero b.edition || nonzero b.lightweight || shaped b.hull) (nonzero b.cranes) d.0 in
-    let a = neither (nonzero b.edition || nonzero b.lightweight) (shaped b.hull) c.0 in
-    is_zero b.edition (neither (nonzero b.edition) (nonzero b.lightweight) a.0).0
+not_built b e = grind arith
 
-pub older : (s : Ship) → refusal_of s ≡ refusal.None → s.particulars.layout ≡ 1 → s.particulars.build.edition ≡ 0
+pub older : (s : Ship) → refusal_of s ≡ None → s.particulars.layout ≡ 1 → s.particulars.build.edition ≡ 0
 older s none h = not_built s.particulars.build (not_with (eqb s.particulars.layout 1) _ (no_refusal s none).newer (rw h))
 
 -- ── A new ship ──────────────────────────────────────────────────────────────────────────────
@@ -72,23 +61,19 @@ sourced c e = rw e tt
 
 new_engine : (e : Engine) → not_new e ≡ false → NewEngine (engine_of e)
 unfolding engine_of
-new_engine e h =
-    let k = neither (nonzero e.limit) (eqb e.uses.source 3) h in
-    record { unlimited = is_zero e.limit k.0; uses = sourced e.uses k.1 }
+new_engine e h = record { unlimited = grind arith; uses = sourced e.uses (grind arith) }
 
 -- Of the four methods only the first is none of 2 to 4.
 by_declared : (method : ℕ) → Within 1 4 method → between 2 4 method ≡ false → method ≡ 1
-by_declared zero w e = absurd (omega (arith, w.least))
-by_declared (suc zero) w e = refl
-by_declared (suc (suc m)) w e = absurd (let z : ◌≡◌ {A = ℕ} 0 1 = let h = by_method (suc (suc m)) w (omega arith) in cc in omega arith)
+by_declared method w e = grind (arith, w.least, w.most)
 
-module _ (s : Ship) (none : refusal_of s ≡ refusal.None) (new : s.particulars.build.edition ≡ 0 → ⊥) where
+module _ (s : Ship) (none : refusal_of s ≡ None) (new : s.particulars.build.edition ≡ 0 → ⊥) where
   -- What an EEDI rules out is not there.
   allowed : any_used not_new s.particulars.used s.engines || eqb s.auxiliary.source 3 || between 2 4 s.particulars.method ≡ false
   unfolding edition_refused
   allowed =
-      let edition = s.particulars.build.edition in
-      not_with (nonzero edition) _ (neither (ltb last_edition edition) _ (no_refusal s none).edition).1 (ap not (ne_eqb edition 0 new))
+      let passed = (no_refusal s none).edition in
+      grind arith
 
   pub new_ship : length s.engines ≡ 4 → NewShip (figures s)
   unfolding figures method_of
@@ -111,12 +96,12 @@ module _ (s : Ship) (none : refusal_of s ≡ refusal.None) (new : s.particulars.
   module _ (edition : ℕ) (listed : edition ≤ last_edition) where
     edition_passed : edition_refused (in_edition edition s) ≡ false
     unfolding edition_refused
-    edition_passed = rw (le-ltb last_edition edition listed, allowed) (and_false (nonzero edition))
+    edition_passed = let barred = allowed in grind arith
 
     layout_passed : eqb s.particulars.layout 1 ≡ false
     layout_passed = ne_eqb s.particulars.layout 1 (λ h. new (older s none h))
 
-    pub every_edition : refusal_of (in_edition edition s) ≡ refusal.None
+    pub every_edition : refusal_of (in_edition edition s) ≡ None
     unfolding trial_refused build_refused
     every_edition =
         let p = s.particulars in
@@ -159,4 +144,4 @@ module _ (s : Ship) (ice : ℕ) (listed : ice ≤ last_ice) (own : s.particulars
   -- Any class that there is, is tested alike.
   pub class_alike : refusal_of (in_class ice s) ≡ refusal_of s
   unfolding refusal_of hull_tests trial_tests trial_refused edition_refused
-  class_alike = ap (λ plant. first_of (hull_tests s ++ plant ++ trial_tests false s) refusal.None) plant_alike
+  class_alike = ap (λ plant. first_of (hull_tests s ++ plant ++ trial_tests false s) None) plant_alike

@@ -1,13 +1,14 @@
 -- The record at one end of every range is accepted where the record with the ranges is, and stands for the ship at that end.
 -- Assumes nothing.
 use Prim.Native.Nat.{ℕ, zero, suc, ◌+◌, ◌≤◌, ◌<◌}
-use mathlib.Core.Path.{◌≡◌, refl, sym, ap, ap₂}
+use mathlib.Core.Path.{◌≡◌, refl, ap, ap₂}
 use mathlib.Core.Bool.{Bool, true, false, ◌&&◌, ◌||◌, not}
 use mathlib.Core.List.{List, [], ◌∷◌, map}
 use native.Mathlib.Omega.{arith}
-use borrow.Author.Tests.{ltb-false, le-ltb, eq-eqb, eqb-true, not-false}
 use lib.Dec.{eqb, ltb, leb}
 use lib.ListN.{get_or, length}
+use Rattle.std.proofs.Math.ListN.{get_or-map}
+use Rattle.std.proofs.lemmas.List.{length-map}
 use Rattle.formula.specs.Words.{if}
 use Rattle.exact.specs.Index.{P_ME, sum_P_ME}
 use Rattle.exact.specs.Ship.{recorded, neither as neither_source}
@@ -25,10 +26,10 @@ use Rattle.ship.specs.declared.Engine.{Engine}
 use Rattle.ship.specs.declared.Particulars.{Particulars}
 use Rattle.ship.specs.declared.Trial.{Trial}
 use Rattle.ship.specs.declared.Ship.{Ship}
-use Rattle.ship.specs.declared.Refusal.TheVariants.{None}
+use Rattle.std.specs.Prelude.{None}
 use Rattle.ship.proofs.Numbered.{method_end, speeds_alike}
 use Rattle.ship.proofs.Right.{no_refusal}
-use Rattle.ship.proofs.Tests.{neither, not_with, inside, each_used}
+use Rattle.ship.proofs.Tests.{neither, inside, each_used}
 
 -- A test that fails.
 abbrev pub Fails : Bool → Type 0
@@ -63,21 +64,14 @@ same a p = p
 
 -- Tests of both ends.
 ends : (P : ℕ → Bool) (top : Bool) (r : Range) → Fails (P r.low || P r.high) → Fails (P (one_end top r).low || P (one_end top r).high)
-ends P true r p = let k = neither (P r.low) (P r.high) p in either k.1 k.1
-ends P false r p = let k = neither (P r.low) (P r.high) p in either k.0 k.0
-
-not_below : (n : ℕ) → Fails (ltb n n)
-not_below n = le-ltb n n (omega arith)
+ends P true r p = grind arith
+ends P false r p = grind arith
 
 not_crossed : (top : Bool) (r : Range) → Fails (crossed (one_end top r))
-not_crossed top r = not_below (one_end top r).low
+not_crossed top r = grind arith
 
 single : (held top : Bool) (r : Range) → Fails (range_refused held (one_end top r))
-single held top r = either (not_crossed top r) (none held _ (eq-eqb (one_end top r).low (one_end top r).low refl))
-  where
-    none : (g t : Bool) → t ≡ true → Fails (g && not t)
-    none true t e = ap not e
-    none false t e = refl
+single held top r = grind arith
 
 -- ── Consumption, MCR, speed ─────────────────────────────────────────────────────────────────
 
@@ -88,18 +82,9 @@ uses top c =
     (and' (eqb c.source 1 || eqb c.source 2) (or' (ends (outside 500 4000) top c.sfc) (same (outside 1 8 c.fuel)))))
     (and' (eqb c.source 3) (or' (ends nonzero top c.sfc) (same (nonzero c.fuel))))
 
--- A limit up to the low MCR is up to the high one.
-limit : (top : Bool) (r : Range) (n : ℕ) → Fails (crossed r) → Fails (outside 100 r.low n) → Fails (outside 100 (one_end top r).low n)
-limit false r n h p = p
-limit true r n h p =
-    let k = neither (ltb n 100) (ltb r.low n) p in
-    either k.0 (le-ltb r.high n (omega (arith, ltb-false r.low n k.1, ltb-false r.high r.low h)))
-
 engine : (top : Bool) (m : ℕ) (e : Engine) → Fails (engine_refused e) → Fails (engine_crossed m e) → Fails (engine_refused (engine_end top e))
-engine top m e p q =
-    let k = neither (range_refused (between 2 4 m) e.mcr) (crossed e.uses.sfc) q in
-    let j = neither (crossed e.mcr) _ k.0 in
-    or' (ends (outside 100 120000) top e.mcr) (and' (nonzero e.limit) (limit top e.mcr e.limit j.0)) p
+engine true m e p q = grind arith
+engine false m e p q = grind arith
 
 speed : (top : Bool) (method kind : ℕ) (r : Range) → Fails (speed_refused method kind r) → Fails (speed_refused method kind (one_end top r))
 speed top method kind r =
@@ -108,27 +93,15 @@ speed top method kind r =
     (and' (between 1 3 method) (ends (outside 500 6000) top r)))
     (and' (eqb method 4) (ends nonzero top r))
 
--- The same of both ends after another test.
-ends_after : (P : ℕ → Bool) (top : Bool) (r : Range) {a c : Bool} → (Fails a → Fails c) → Fails (a || P r.low || P r.high)
-    → Fails (c || P (one_end top r).low || P (one_end top r).high)
-ends_after P top r {a} f p =
-    let k = neither (a || P r.low) (P r.high) p in
-    let j = neither a (P r.low) k.0 in
-    let e = neither (P (one_end top r).low) (P (one_end top r).high) (ends P top r (either j.1 k.1)) in
-    either (either (f j.0) e.0) e.1
-
 unused : (top : Bool) (e : Engine) → Fails (occupied e) → Fails (occupied (engine_end top e))
-unused top e =
-    or' (or' (ends_after nonzero top e.uses.sfc (or' (ends nonzero top e.mcr) (same (nonzero e.limit)))) (same (nonzero e.uses.fuel)))
-    (same (nonzero e.uses.source))
+unused true e p = grind arith
+unused false e p = grind arith
 
 -- ── The four entries ────────────────────────────────────────────────────────────────────────
 
 entry : (top : Bool) (es : List Engine) (i : ℕ) → get_or (map (engine_end top) es) i no_engine ≡ engine_end top (get_or es i no_engine)
-entry true [] i = refl
-entry false [] i = refl
-entry top (e ∷ es) zero = refl
-entry top (e ∷ es) (suc i) = entry top es i
+entry true es i = get_or-map (engine_end true) es i no_engine
+entry false es i = get_or-map (engine_end false) es i no_engine
 
 module _ (top : Bool) (es : List Engine) (t u v : Engine → Bool) (f : (e : Engine) → Fails (t e) → Fails (u e) → Fails (v (engine_end top e))) where
   one : (g : Bool) (i : ℕ) → Fails (g && t (get_or es i no_engine)) → Fails (g && u (get_or es i no_engine)) → Fails (g && v (get_or (map (engine_end top) es) i no_engine))
@@ -152,16 +125,10 @@ same_power top (suc n) (e ∷ es) h =
 
 equal_ends : (top held : Bool) (r : Range) → held ≡ true → Fails (range_refused held r) → (one_end top r).low ≡ r.low
 equal_ends false held r g p = refl
-equal_ends true held r g p =
-    let k = neither (crossed r) (held && not (eqb r.low r.high)) p in
-    sym (eqb-true r.low r.high (not-false _ (not_with held _ k.1 g)))
+equal_ends true held r g p = grind arith
 
 by_trial : (n : ℕ) → eqb n 2 || eqb n 3 ≡ true → between 2 4 n ≡ true
-by_trial n h = go n (eqb n 2) refl h
-  where
-    go : (n : ℕ) (b : Bool) → eqb n 2 ≡ b → b || eqb n 3 ≡ true → between 2 4 n ≡ true
-    go n true e h = rw (eqb-true n 2 e)
-    go n false e h = rw (eqb-true n 3 h)
+by_trial n h = grind arith
 
 module _ (top : Bool) (p : Particulars) (es : List Engine) (few : p.used ≤ 4) (crossing : Fails (any_used (engine_crossed p.method) p.used es)) where
   kept_power : between 2 4 p.method ≡ true → sum_P_ME (engines_at low (mains p.used (map (engine_end top) es))) ≡ sum_P_ME (engines_at low (mains p.used es))
@@ -256,5 +223,4 @@ pub stands_least : (s : Ship) → StandsFor (figures (record_end true s)) (least
 stands_least = stand true high low (λ r. refl) (λ r. refl)
 
 pub entries_end : (top : Bool) (es : List Engine) → length (map (engine_end top) es) ≡ length es
-entries_end top [] = refl
-entries_end top (e ∷ es) = ap suc (entries_end top es)
+entries_end top es = length-map es (engine_end top)

@@ -6,8 +6,9 @@ use mathlib.Core.Bool.{Bool, true, false, ◌&&◌, ◌||◌, not}
 use mathlib.Core.List.{List, [], ◌∷◌}
 use native.Mathlib.Omega.{arith}
 use borrow.Author.Tests.{eqb-true, eqb-false}
-use lib.Dec.{eqb, lit≤, eqb-suc-zero}
+use lib.Dec.{eqb, lit≤}
 use lib.ListN.{length, get_or}
+use Rattle.std.specs.Prelude.{None}
 use Rattle.exact.specs.Ship as exact
 use Rattle.exact.specs.Ranges.{Range, engines_at, low, high, Single, Settled, Firm}
 use Rattle.formula.specs.Words.{if}
@@ -21,9 +22,7 @@ use Rattle.ship.specs.declared.Engine.{Engine}
 use Rattle.ship.specs.declared.Crane.{Crane}
 use Rattle.ship.specs.declared.Trial.{Trial}
 use Rattle.ship.specs.declared.Ship.{Ship}
-use Rattle.ship.specs.declared.Refusal.TheVariants as refusal
 use Rattle.exact.proofs.Rules.{P_ME_unlimited, P_ME_limited}
-use Rattle.ship.proofs.Tests.{not_with, inside}
 use Rattle.ship.proofs.Numbered.{by_number}
 use Rattle.ship.proofs.Right.{Metered, Entry, OfType, by_method, by_type, numbers_accepted}
 
@@ -65,7 +64,7 @@ measured c m = go (eqb c.source 3) refl
 
 limited : (mcr limit : ℕ) → nonzero limit && outside 100 mcr limit ≡ false → Limited mcr limit
 limited mcr zero h = no_limiter
-limited mcr (suc l) h = limiter (inside 100 mcr (suc l) (not_with (nonzero (suc l)) _ h (ap not (eqb-suc-zero l))))
+limited mcr (suc l) h = limiter (record { least = grind arith; most = grind arith })
 
 pub rated_entry : (m : ℕ) (e : Engine) → Entry m e → Rated (engine_of e)
 unfolding engine_of
@@ -175,7 +174,7 @@ supplied m kW h = go (eqb m 2) refl
 
 -- ── The figures of a record with no refusal ─────────────────────────────────────────────────
 
-pub figures_accepted : (s : Ship) → length s.engines ≡ 4 → refusal_of s ≡ refusal.None → AcceptedFigures (figures s)
+pub figures_accepted : (s : Ship) → length s.engines ≡ 4 → refusal_of s ≡ None → AcceptedFigures (figures s)
 unfolding figures number_of_kind
 figures_accepted s four e =
     let r = numbers_accepted s e in

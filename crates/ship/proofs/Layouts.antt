@@ -6,6 +6,8 @@ use mathlib.Core.Bool.{Bool, false, ◌||◌}
 use mathlib.Core.List.{List, [], ◌∷◌, ◌++◌}
 use borrow.Author.Tests.{le-ltb}
 use lib.Dec.{eqb}
+use Rattle.std.specs.Prelude.{None}
+use Rattle.std.proofs.Math.Bool.{or-false, and-false}
 use Rattle.ship.specs.Record.{no_build, in_layout}
 use Rattle.ship.specs.Refusals.{first_of}
 use Rattle.ship.specs.Figures.{figures}
@@ -15,15 +17,14 @@ use Rattle.ship.specs.declared.Build.{Build}
 use Rattle.ship.specs.declared.Ship.{Ship}
 use Rattle.ship.specs.declared.Refusal.{Refusal}
 use Rattle.ship.specs.declared.Refusal.TheVariants as refusal
-use Rattle.ship.proofs.Tests.{or_false, and_false}
 
 -- Types 1 to 7 are taken in both.
 pub seven_in_both : (layout kind : ℕ) → kind ≤ 7 → type_refused layout kind ≡ outside 1 8 kind
-seven_in_both layout kind h = rw (le-ltb 7 kind h) (or_false (outside 1 8 kind))
+seven_in_both layout kind h = rw (le-ltb 7 kind h) (or-false (outside 1 8 kind))
 
 nothing_newer : (layout : ℕ) (b : Build) → b ≡ no_build → newer_refused layout b ≡ false
 unfolding built
-nothing_newer layout b e = rw e (and_false (eqb layout 1))
+nothing_newer layout b e = rw e (and-false (eqb layout 1))
 
 module _ (s : Ship) (seven : s.particulars.kind ≤ 7) (nothing : s.particulars.build ≡ no_build) where
   hull_alike : hull_tests (in_layout 1 s) ≡ hull_tests (in_layout 2 s)
@@ -54,7 +55,7 @@ module _ (s : Ship) (seven : s.particulars.kind ≤ 7) (nothing : s.particulars.
 
   pub refused_alike : refusal_of (in_layout 1 s) ≡ refusal_of (in_layout 2 s)
   unfolding refusal_of plant_tests
-  refused_alike = ap₂ (λ hull trial. first_of (hull ++ plant_tests (in_layout 1 s) ++ trial) refusal.None) hull_alike trial_alike
+  refused_alike = ap₂ (λ hull trial. first_of (hull ++ plant_tests (in_layout 1 s) ++ trial) None) hull_alike trial_alike
 
 pub figures_alike : (s : Ship) → figures (in_layout 1 s) ≡ figures (in_layout 2 s)
 unfolding figures

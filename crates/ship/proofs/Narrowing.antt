@@ -9,6 +9,7 @@ use borrow.Author.Tests.{ltb-true, ltb-false}
 use lib.Dec.{eqb, ltb}
 use lib.ListN.{length, get_or}
 use Rattle.formula.specs.Words.{if}
+use Rattle.std.specs.Prelude.{None}
 use Rattle.exact.specs.Ship.{recorded, neither}
 use Rattle.exact.specs.Ranges as ranges
 use Rattle.exact.specs.Ranges.{narrows, Narrowed}
@@ -16,7 +17,6 @@ use Rattle.ship.specs.Figures.{fuel_of, range_of, uses_of, engine_of, mains, fig
 use Rattle.ship.specs.Record.{no_engine}
 use Rattle.ship.specs.Ends.{one_end, uses_end, engine_end, record_end, Narrower, NarrowerUses, NarrowerEngines, no_more, one_more, NarrowerRecord}
 use Rattle.ship.specs.Rules.{refusal_of}
-use Rattle.ship.specs.declared.Refusal.TheVariants as refusal
 use Rattle.ship.specs.declared.Range.{Range}
 use Rattle.ship.specs.declared.Consumption.{Consumption}
 use Rattle.ship.specs.declared.Engine.{Engine}
@@ -66,7 +66,7 @@ engines_narrower top (e ∷ es) h =
     let r = h 0 (omega arith) in
     one_more (range_end top r.mcr) refl (uses_narrower top r.sfc) (engines_narrower top es (λ i k. h (suc i) (omega arith)))
 
-module _ (s : Ship) (four : length s.engines ≡ 4) (none : refusal_of s ≡ refusal.None) where
+module _ (s : Ship) (four : length s.engines ≡ 4) (none : refusal_of s ≡ None) where
   entry_rises : (i : ℕ) → i < length s.engines → Rising (get_or s.engines i no_engine)
   entry_rises i h = go (ltb i s.particulars.used) refl
     where

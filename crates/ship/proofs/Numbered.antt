@@ -6,12 +6,11 @@ use mathlib.Core.Bool.{Bool, true, false}
 use native.Mathlib.Omega.{arith}
 use borrow.Author.Tests.{eqb-true, eqb-false}
 use lib.Dec.{eqb}
-use lib.ListN.{get_or, length}
+use lib.ListN.{get_or}
 use Rattle.exact.specs.Ship as exact
-use Rattle.exact.specs.Index.{container?}
 use Rattle.exact.specs.Ranges.{Range, Speeds, method_1, method_2, method_3, method_4, method_at}
 use Rattle.ship.specs.Accepted.{Within}
-use Rattle.ship.specs.Figures.{kinds, kind_of, Listed, methods, method_of}
+use Rattle.ship.specs.Figures.{methods, method_of}
 use Rattle.ship.specs.declared.Trial.{Trial}
 
 abbrev pub Upto : (ℕ → Type 0) → ℕ → Type 0
@@ -28,10 +27,6 @@ last_or P m n last rest h = go (eqb n (suc m)) refl
 pub by_number : (P : ℕ → Type 0) (m : ℕ) → Upto P m → (n : ℕ) → Within 1 m n → P n
 by_number P zero u n w = absurd (omega (arith, w.least, w.most))
 by_number P (suc m) u n w = last_or P m n u.1 (λ h. by_number P m u.0 n (record { least = w.least; most = h })) w.most
-
--- Number 4 is the container ship.
-pub is_container : (kind : ℕ) → Listed kind → container? (kind_of kind) ≡ eqb kind 4
-is_container = by_number (λ kind. container? (kind_of kind) ≡ eqb kind 4) (length kinds) ((((((((tt, refl), refl), refl), refl), refl), refl), refl), refl)
 
 -- ── Speed methods ───────────────────────────────────────────────────────────────────────────
 

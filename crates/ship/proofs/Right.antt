@@ -1,13 +1,16 @@
 -- What the numbers of a record with no refusal are.
 -- Assumes nothing.
-use Prim.Native.Nat.{ℕ, zero, suc, ◌+◌, ◌*◌, ◌≤◌, ◌<◌}
-use mathlib.Core.Path.{◌≡◌, refl, sym, ap, ◌∙◌}
+use Prim.Native.Nat.{ℕ, ◌+◌, ◌*◌, ◌≤◌, ◌<◌}
+use mathlib.Core.Path.{◌≡◌, refl, sym, ◌∙◌}
 use mathlib.Core.Bool.{Bool, true, false, ◌&&◌, ◌||◌, not}
 use mathlib.Core.List.{List, [], ◌∷◌, ◌++◌, map}
 use native.Mathlib.Omega.{arith}
-use borrow.Author.Tests.{ltb-false, lt-ltb, eq-eqb, ne_eqb, eqb-true, eqb-false, le-leb, not-false}
-use lib.Dec.{eqb, ltb, leb, eqb-suc-zero}
+use borrow.Author.Tests.{ltb-false, eq-eqb, eqb-true, eqb-false}
+use lib.Dec.{eqb, ltb}
 use lib.ListN.{get_or, length}
+use Rattle.std.specs.Prelude.{None}
+use Rattle.std.specs.Option.{option_or}
+use Rattle.std.proofs.Math.Bool.{or-true}
 use Rattle.exact.specs.Index.{Capacity, sum_P_ME}
 use Rattle.exact.specs.Ranges.{engines_at, low}
 use Rattle.ship.specs.Record.{no_engine, no_crane, record_with}
@@ -15,7 +18,7 @@ use Rattle.ship.specs.Refusals.{number_of, first_of}
 use Rattle.ship.specs.Figures.{kinds, kind_of, Listed, last_ice, last_edition, Fuelled, deadweight_of, hull_of, crane_of, mains}
 use Rattle.ship.specs.Rules.{outside, between, nonzero, any_used, any_below, layout_refused, imo_refused, type_refused, deadweight_refused, gross_refused, volume_refused, engines_refused}
 use Rattle.ship.specs.Rules.{uses_refused, consumption_refused, auxiliary_refused, ice_refused, speed_refused, crossed, range_refused, engine_crossed}
-use Rattle.ship.specs.Rules.{lifting, shaped, newer_refused, lightweight_refused, crane_refused, cranes_refused, hull_refused, build_refused, edition_refused}
+use Rattle.ship.specs.Rules.{newer_refused, lightweight_refused, crane_refused, cranes_refused, hull_refused, build_refused, edition_refused}
 use Rattle.ship.specs.Rules.{ranges_refused, apart, trial_refused, occupied, unused_refused, hull_tests, plant_tests, trial_tests, early_tests, tests, refusal_of}
 use Rattle.ship.specs.Accepted.{Within, Near, Shaped, Geared}
 use Rattle.ship.specs.declared.Range.{Range}
@@ -29,8 +32,8 @@ use Rattle.ship.specs.declared.Particulars.{Particulars}
 use Rattle.ship.specs.declared.Ship.{Ship}
 use Rattle.ship.specs.declared.Refusal.{Refusal}
 use Rattle.ship.specs.declared.Refusal.TheVariants as refusal
-use Rattle.ship.proofs.Order.{passed, own_none, or_else, two_stages}
-use Rattle.ship.proofs.Tests.{or_true, neither, not_with, inside, is_zero, none_below, each_used, each_unused, engines_inside, Sized, engine_inside}
+use Rattle.ship.proofs.Order.{passed, own_none, two_stages}
+use Rattle.ship.proofs.Tests.{neither, not_with, inside, is_zero, none_below, each_used, each_unused, engines_inside, Sized, engine_inside}
 
 -- ── The order of the rules ──────────────────────────────────────────────────────────────────
 
@@ -56,10 +59,10 @@ pub record Early (s : Ship) : Type 0 where
   pub speed : speed_refused s.particulars.method s.particulars.kind s.speed ≡ false
   pub ranges : ranges_refused s ≡ false
 
-pub early : (s : Ship) → first_of (early_tests s) refusal.None ≡ refusal.None → Early s
+pub early : (s : Ship) → first_of (early_tests s) None ≡ None → Early s
 unfolding hull_tests plant_tests
 early s e =
-    let h = passed (early_tests s) refusal.None refl e in
+    let h = passed (early_tests s) None refusal.Edition e in
     record {
       layout = h 0;
       imo = h 1;
@@ -84,15 +87,15 @@ pub record Passed (z : Bool) (s : Ship) : Type 0 where
   pub build : build_refused s.particulars.kind s.particulars.build ≡ false
   pub edition : edition_refused s ≡ false
 
-pub all_passed : (zeros : Bool) (s : Ship) → first_of (tests zeros s) refusal.None ≡ refusal.None → Passed zeros s
+pub all_passed : (zeros : Bool) (s : Ship) → first_of (tests zeros s) None ≡ None → Passed zeros s
 unfolding hull_tests plant_tests trial_tests
 all_passed zeros s e =
-    let h = passed (tests zeros s) refusal.None refl e in
+    let h = passed (tests zeros s) None refusal.Edition e in
     let p = s.particulars in
     let n = neither (zeros || unused_refused p.used s.engines) (newer_refused p.layout p.build) (h 13) in
     let k = neither zeros (unused_refused p.used s.engines) n.0 in
     record {
-      early = early s (own_none (first_of (early_tests s) refusal.None) _ (sym (two_stages (early_tests s) (trial_tests zeros s) refl) ∙ e));
+      early = early s (own_none (first_of (early_tests s) None) _ (sym (two_stages (early_tests s) (trial_tests zeros s)) ∙ e));
       trial = h 12;
       zeros = k.0;
       unused = k.1;
@@ -101,17 +104,17 @@ all_passed zeros s e =
       edition = h 15;
     }
 
-pub no_refusal : (s : Ship) → refusal_of s ≡ refusal.None → Passed false s
+pub no_refusal : (s : Ship) → refusal_of s ≡ None → Passed false s
 unfolding refusal_of
 no_refusal = all_passed false
 
 -- An accepted record with another speed method, trial or build is accepted where it passes the rules that look at these.
-module _ (s : Ship) (none : refusal_of s ≡ refusal.None) (method : ℕ) (run : Trial) (build : Build) where
+module _ (s : Ship) (none : refusal_of s ≡ None) (method : ℕ) (run : Trial) (build : Build) where
   abbrev changed : Ship
   changed = record_with method run s.particulars.ice s.particulars.layout build s
 
   pub changed_accepted : speed_refused method s.particulars.kind s.speed ≡ false → ranges_refused changed ≡ false → trial_refused changed.particulars s.engines ≡ false
-      → newer_refused s.particulars.layout build ≡ false → build_refused s.particulars.kind build ≡ false → edition_refused changed ≡ false → refusal_of changed ≡ refusal.None
+      → newer_refused s.particulars.layout build ≡ false → build_refused s.particulars.kind build ≡ false → edition_refused changed ≡ false → refusal_of changed ≡ None
   unfolding refusal_of first_of hull_tests plant_tests trial_tests
   changed_accepted speed ranges trial newer built edition =
       let q = no_refusal s none in
@@ -119,14 +122,14 @@ module _ (s : Ship) (none : refusal_of s ≡ refusal.None) (method : ℕ) (run :
       rw (h.layout, h.imo, h.kind, h.deadweight, h.gross, h.cargo, h.engines, h.consumption, h.auxiliary, h.ice, speed, ranges, trial, q.unused, newer, built, edition)
 
 -- A block whose bytes are refused nothing has a record that is refused nothing.
-pub own_refusal : (zeros : Bool) (s : Ship) → first_of (tests zeros s) refusal.None ≡ refusal.None → refusal_of s ≡ refusal.None
+pub own_refusal : (zeros : Bool) (s : Ship) → first_of (tests zeros s) None ≡ None → refusal_of s ≡ None
 unfolding refusal_of
 own_refusal zeros s e = rw (← (all_passed zeros s e).zeros) e
 
 -- Tests that come after a record's own count only where it has no refusal.
-pub after_own : (s : Ship) (us : List (Bool × Refusal)) → first_of (tests false s ++ us) refusal.None ≡ or_else (refusal_of s) (first_of us refusal.None)
+pub after_own : (s : Ship) (us : List (Bool × Refusal)) → first_of (tests false s ++ us) None ≡ option_or (refusal_of s) (first_of us None)
 unfolding refusal_of hull_tests plant_tests trial_tests
-after_own s us = two_stages (tests false s) us refl
+after_own s us = two_stages (tests false s) us
 
 -- ── Guards that are met ─────────────────────────────────────────────────────────────────────
 
@@ -139,13 +142,13 @@ cases {P} n k f g = go (eqb n k) refl
     go false e = g (eqb-false n k e)
 
 first_of_two : (n a b : ℕ) → n ≡ a → eqb n a || eqb n b ≡ true
-first_of_two n a b h = rw (eq-eqb n a h)
+first_of_two n a b h = grind arith
 
 pub either_of : (n a : ℕ) → a ≤ n → n ≤ a + 1 → eqb n a || eqb n (a + 1) ≡ true
-either_of n a h k = cases n a (first_of_two n a (a + 1)) (λ d. rw (ne_eqb n a d, eq-eqb n (a + 1) (omega arith)))
+either_of n a h k = grind arith
 
 met : (lo hi n : ℕ) → lo ≤ n → n ≤ hi → between lo hi n ≡ true
-met lo hi n h k = rw (le-leb lo n h, le-leb n hi k)
+met lo hi n h k = grind arith
 
 -- ── Rules 7, 8: a figure of one type only ───────────────────────────────────────────────────
 
@@ -154,11 +157,7 @@ pub record OfType (k lo hi kind n : ℕ) : Type 0 where
   pub most : n ≤ hi
 
 of_type : (k lo hi kind n : ℕ) → eqb kind k && outside lo hi n || not (eqb kind k) && nonzero n ≡ false → OfType k lo hi kind n
-of_type k lo hi kind n e =
-    let j = neither (eqb kind k && outside lo hi n) (not (eqb kind k) && nonzero n) e in
-    let of : kind ≡ k → Within lo hi n = λ h. inside lo hi n (not_with (eqb kind k) _ j.0 (eq-eqb kind k h)) in
-    let other : (kind ≡ k → ⊥) → n ≡ 0 = λ h. is_zero n (not_with (not (eqb kind k)) _ j.1 (ap not (ne_eqb kind k h))) in
-    record { least = λ h. (of h).least; most = cases kind k (λ h. (of h).most) (λ h. omega (arith, other h)) }
+of_type k lo hi kind n e = record { least = λ h. grind arith; most = grind arith }
 
 -- ── Rules 10 and 14: a consumption ──────────────────────────────────────────────────────────
 
@@ -172,28 +171,13 @@ pub record Metered (c : Consumption) : Type 0 where
 
 metered : (c : Consumption) → uses_refused c ≡ false → crossed c.sfc ≡ false → Metered c
 metered c e r =
-    let n = c.source in
-    let bad = outside 500 4000 c.sfc.low || outside 500 4000 c.sfc.high || outside 1 8 c.fuel in
-    let some = nonzero c.sfc.low || nonzero c.sfc.high || nonzero c.fuel in
-    let k = neither (outside 1 3 n || (eqb n 1 || eqb n 2) && bad) (eqb n 3 && some) e in
-    let j = neither (outside 1 3 n) ((eqb n 1 || eqb n 2) && bad) k.0 in
-    let w = inside 1 3 n j.0 in
-    let given : (n ≡ 3 → ⊥) → bad ≡ false = λ h. not_with (eqb n 1 || eqb n 2) bad j.1 (either_of n 1 w.least (omega arith)) in
-    let ends : (n ≡ 3 → ⊥) → Within 500 4000 c.sfc.low × Within 500 4000 c.sfc.high × Within 1 8 c.fuel = λ h.
-    let b = neither (outside 500 4000 c.sfc.low || outside 500 4000 c.sfc.high) (outside 1 8 c.fuel) (given h) in
-    let a = neither (outside 500 4000 c.sfc.low) (outside 500 4000 c.sfc.high) b.0 in
-    (inside 500 4000 c.sfc.low a.0, inside 500 4000 c.sfc.high a.1, inside 1 8 c.fuel b.1) in
-    let none : n ≡ 3 → (c.sfc.low ≡ 0) × (c.sfc.high ≡ 0) × (c.fuel ≡ 0) = λ h.
-    let b = neither (nonzero c.sfc.low || nonzero c.sfc.high) (nonzero c.fuel) (not_with (eqb n 3) some k.1 (eq-eqb n 3 h)) in
-    let a = neither (nonzero c.sfc.low) (nonzero c.sfc.high) b.0 in
-    (is_zero c.sfc.low a.0, is_zero c.sfc.high a.1, is_zero c.fuel b.1) in
     record {
-      source = w;
-      fuel = cases n 3 (λ h. omega (arith, (none h).2)) (λ h. (ends h).2.most);
-      fuelled = λ h. (ends h).2;
-      most = cases n 3 (λ h. (omega (arith, (none h).0), omega (arith, (none h).1))) (λ h. ((ends h).0.most, (ends h).1.most));
-      least = λ h. (ends h).0.least;
-      rising = ltb-false c.sfc.high c.sfc.low r;
+      source = record { least = grind arith; most = grind arith };
+      fuel = grind arith;
+      fuelled = λ h. record { least = grind arith; most = grind arith };
+      most = (grind arith, grind arith);
+      least = λ h. grind arith;
+      rising = grind arith;
     }
 
 -- ── Rule 14: a range, and an engine entry that is used ──────────────────────────────────────
@@ -203,19 +187,14 @@ pub record Settles (held : Bool) (r : Range) : Type 0 where
   pub single : held ≡ true → r.low ≡ r.high
 
 settles : (held : Bool) (r : Range) → range_refused held r ≡ false → Settles held r
-settles held r e =
-    let k = neither (crossed r) (held && not (eqb r.low r.high)) e in
-    record {
-      rising = ltb-false r.high r.low k.0;
-      single = λ h. eqb-true r.low r.high (not-false _ (not_with held _ k.1 h));
-    }
+settles held r e = record { rising = grind arith; single = λ h. grind arith }
 
 -- By methods 2 to 4 every range is held to one figure, and of type 8 the speed's.
 pub by_method : (method : ℕ) → Within 1 4 method → 2 ≤ method → between 2 4 method ≡ true
 by_method method w h = met 2 4 method h w.most
 
 pub by_type : (method kind : ℕ) → kind ≡ 8 → between 2 4 method || eqb kind 8 ≡ true
-by_type method kind h = rw (eq-eqb kind 8 h) (or_true (between 2 4 method))
+by_type method kind h = grind arith
 
 pub record Entry (method : ℕ) (e : Engine) : Type 0 where
   pub sized : Sized e
@@ -257,9 +236,7 @@ speeded method kind v e =
 -- ── Rule 15: the trial ──────────────────────────────────────────────────────────────────────
 
 near : (w h : ℕ) → apart w h ≡ false → Near (100 * w) h
-near w h e =
-    let k = neither (ltb (5 * h) (100 * w)) (ltb (5 * (100 * w)) h) e in
-    record { first = ltb-false (5 * h) (100 * w) k.0; second = ltb-false (5 * (100 * w)) h k.1 }
+near w h e = record { first = grind arith; second = grind arith }
 
 -- With P the sum of P_ME and C the Capacity, both in hundredths.
 pub record Trialled (m kW tonnes P C : ℕ) : Type 0 where
@@ -290,7 +267,7 @@ trialled p es w e =
     let a = neither (outside 1 600000 kW) (apart kW P) (not_with (eqb m 2 || eqb m 3) bad j.1 (either_of m 2 g h)) in
     (inside 1 600000 kW a.0, near kW P a.1) in
     let loaded : m ≡ 3 → Near (100 * t) C = λ h. near t C (neither (eqb t 0) (apart t C) (not_with (eqb m 3) off l.1 (eq-eqb m 3 h))).1 in
-    let last : eqb m 4 ≡ true → eqb m 1 || eqb m 4 ≡ true = λ h. rw h (or_true (eqb m 1)) in
+    let last : eqb m 4 ≡ true → eqb m 1 || eqb m 4 ≡ true = λ h. rw h (or-true (eqb m 1)) in
     record {
       power = cases m 1 (λ h. omega (arith, (none (first_of_two m 1 4 h)).0)) (λ a.
           cases m 4 (λ h. omega (arith, (none (last (eq-eqb m 4 h))).0)) (λ b. (tried (omega arith) (omega arith)).0.most));
@@ -305,20 +282,17 @@ trialled p es w e =
 
 idle : (e : Engine) → occupied e ≡ false → e ≡ no_engine
 idle e h =
-    let k6 = neither _ (nonzero e.uses.source) h in
-    let k5 = neither _ (nonzero e.uses.fuel) k6.0 in
-    let k4 = neither _ (nonzero e.uses.sfc.high) k5.0 in
-    let k3 = neither _ (nonzero e.uses.sfc.low) k4.0 in
-    let k2 = neither _ (nonzero e.limit) k3.0 in
-    let k1 = neither (nonzero e.mcr.low) (nonzero e.mcr.high) k2.0 in
+    let low : e.mcr.low ≡ 0 = grind arith in
+    let high : e.mcr.high ≡ 0 = grind arith in
+    let limit : e.limit ≡ 0 = grind arith in
+    let sfc_low : e.uses.sfc.low ≡ 0 = grind arith in
+    let sfc_high : e.uses.sfc.high ≡ 0 = grind arith in
+    let fuel : e.uses.fuel ≡ 0 = grind arith in
+    let source : e.uses.source ≡ 0 = grind arith in
     λ i. record {
-      mcr = record { low = is_zero e.mcr.low k1.0 i; high = is_zero e.mcr.high k1.1 i };
-      limit = is_zero e.limit k2.1 i;
-      uses = record {
-        sfc = record { low = is_zero e.uses.sfc.low k3.1 i; high = is_zero e.uses.sfc.high k4.1 i };
-        fuel = is_zero e.uses.fuel k5.1 i;
-        source = is_zero e.uses.source k6.1 i;
-      };
+      mcr = record { low = low i; high = high i };
+      limit = limit i;
+      uses = record { sfc = record { low = sfc_low i; high = sfc_high i }; fuel = fuel i; source = source i };
     }
 
 -- ── Rule 18: what layout 2 adds ─────────────────────────────────────────────────────────────
@@ -339,57 +313,31 @@ pub record Built (kind : ℕ) (b : Build) : Type 0 where
   pub hull : kind ≡ 8 → Shaped (hull_of b.hull)
 
 light : (kind n : ℕ) → lightweight_refused kind n ≡ false → n ≤ 200000
-light kind zero e = omega arith
-light kind (suc n) e =
-    let other = not (eqb kind 1) && not (eqb kind 3) in
-    (inside 100 200000 (suc n) (neither other (outside 100 200000 (suc n)) (not_with (nonzero (suc n)) (other || outside 100 200000 (suc n)) e (ap not (eqb-suc-zero n)))).1).most
+light kind n e = grind arith
 
 geared : (used i : ℕ) (c : Crane) → crane_refused used i c ≡ false → i < used → Geared (crane_of c)
 geared used i c e h =
-    let k = neither (ltb i used && (outside 1 10000 c.swl || outside 1 10000 c.reach)) (leb used i && lifting c) e in
-    let j = neither (outside 1 10000 c.swl) (outside 1 10000 c.reach) (not_with (ltb i used) _ k.0 (lt-ltb i used h)) in
-    record { swl = inside 1 10000 c.swl j.0; reach = inside 1 10000 c.reach j.1 }
+    record { swl = record { least = grind arith; most = grind arith }; reach = record { least = grind arith; most = grind arith } }
 
 lowered : (used i : ℕ) (c : Crane) → crane_refused used i c ≡ false → used ≤ i → c ≡ no_crane
 lowered used i c e h =
-    let k = neither (ltb i used && (outside 1 10000 c.swl || outside 1 10000 c.reach)) (leb used i && lifting c) e in
-    let j = neither (nonzero c.swl) (nonzero c.reach) (not_with (leb used i) _ k.1 (le-leb used i h)) in
-    λ i. record { swl = is_zero c.swl j.0 i; reach = is_zero c.reach j.1 i }
+    let swl : c.swl ≡ 0 = grind arith in
+    let reach : c.reach ≡ 0 = grind arith in
+    λ i. record { swl = swl i; reach = reach i }
 
 module _ (kind : ℕ) (h : Hull) (e : hull_refused kind h ≡ false) where
   own_shape : kind ≡ 8 → Shaped (hull_of h)
   own_shape g =
-      let k = neither (eqb kind 8 && _) (not (eqb kind 8) && shaped h) e in
-      let j = neither _ (ltb (h.length * h.breadth * h.draught) (h.volume * 1000000)) (not_with (eqb kind 8) _ k.0 (eq-eqb kind 8 g)) in
-      let v = neither _ (outside 100 1000000 h.volume) j.0 in
-      let t = neither _ (outside 50 4000 h.draught) v.0 in
-      let b = neither (outside 1000 50000 h.length) (outside 200 10000 h.breadth) t.0 in
       record {
-        volume = inside 100 1000000 h.volume v.1;
-        length = inside 1000 50000 h.length b.0;
-        breadth = inside 200 10000 h.breadth b.1;
-        draught = inside 50 4000 h.draught t.1;
-        inside = ltb-false (h.length * h.breadth * h.draught) (h.volume * 1000000) j.1;
-      }
-
-  no_shape : (kind ≡ 8 → ⊥) → Small h
-  no_shape g =
-      let k = neither (eqb kind 8 && _) (not (eqb kind 8) && shaped h) e in
-      let t = neither _ (nonzero h.draught) (not_with (not (eqb kind 8)) (shaped h) k.1 (ap not (ne_eqb kind 8 g))) in
-      let b = neither _ (nonzero h.breadth) t.0 in
-      let l = neither (nonzero h.volume) (nonzero h.length) b.0 in
-      record {
-        volume = omega (arith, is_zero h.volume l.0);
-        length = omega (arith, is_zero h.length l.1);
-        breadth = omega (arith, is_zero h.breadth b.1);
-        draught = omega (arith, is_zero h.draught t.1);
+        volume = record { least = grind arith; most = grind arith };
+        length = record { least = grind arith; most = grind arith };
+        breadth = record { least = grind arith; most = grind arith };
+        draught = record { least = grind arith; most = grind arith };
+        inside = grind arith;
       }
 
   small : Small h
-  small =
-      cases kind 8
-      (λ g. let w = own_shape g in record { volume = w.volume.most; length = w.length.most; breadth = w.breadth.most; draught = w.draught.most })
-      no_shape
+  small = record { volume = grind arith; length = grind arith; breadth = grind arith; draught = grind arith }
 
 built_so : (kind : ℕ) (b : Build) → build_refused kind b ≡ false → Built kind b
 unfolding build_refused
@@ -435,18 +383,13 @@ pub record AcceptedNumbers (s : Ship) : Type 0 where
 -- Rule 11 in the shape of rules 7 and 8.
 supplied : (method power : ℕ) → auxiliary_refused method power ≡ false → Within 1 2 method × OfType 2 1 50000 method power
 supplied method power e =
-    let k = neither (outside 1 2 method || eqb method 1 && nonzero power) (eqb method 2 && outside 1 50000 power) e in
-    let j = neither (outside 1 2 method) (eqb method 1 && nonzero power) k.0 in
-    let w = inside 1 2 method j.0 in
-    let of : method ≡ 2 → Within 1 50000 power = λ h. inside 1 50000 power (not_with (eqb method 2) _ k.1 (eq-eqb method 2 h)) in
-    let other : method ≡ 1 → power ≡ 0 = λ h. is_zero power (not_with (eqb method 1) _ j.1 (eq-eqb method 1 h)) in
-    (w, record { least = λ h. (of h).least; most = cases method 2 (λ h. (of h).most) (λ h. omega (arith, other (omega arith))) })
+    (record { least = grind arith; most = grind arith }, record { least = λ h. grind arith; most = grind arith })
 
 listed_edition : (s : Ship) → edition_refused s ≡ false → s.particulars.build.edition ≤ last_edition
 unfolding edition_refused
 listed_edition s e = ltb-false last_edition s.particulars.build.edition (neither (ltb last_edition s.particulars.build.edition) _ e).0
 
-pub numbers_accepted : (s : Ship) → refusal_of s ≡ refusal.None → AcceptedNumbers s
+pub numbers_accepted : (s : Ship) → refusal_of s ≡ None → AcceptedNumbers s
 numbers_accepted s e =
     let p = s.particulars in
     let es = s.engines in

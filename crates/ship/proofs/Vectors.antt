@@ -10,7 +10,7 @@ use Rattle.ship.specs.Figures.{uses_of, engine_of, mains, figures}
 use Rattle.ship.specs.Rules.{trial_refused, built, build_refused, edition_refused, hull_tests, plant_tests, trial_tests, refusal_of}
 use Rattle.ship.specs.Accepted.{AcceptedFigures}
 use Rattle.ship.specs.declared.Ship.{Ship}
-use Rattle.ship.specs.declared.Refusal.TheVariants.{None}
+use Rattle.std.specs.Prelude.{None}
 use Rattle.ship.proofs.Figured.{figures_accepted}
 
 abbrev ship_S : Ship

@@ -1,6 +1,6 @@
 -- The refusals of a record, 3 to 16, 18 and 19: each definition says when its refusal is given, and one list has them in order of checking.
 -- Assumes nothing.
-use Rattle.std.specs.Prelude.{ℕ, zero, suc, ◌+◌, ◌*◌, ◌/◌, ◌%◌, List, [], ◌∷◌, ◌++◌, Bool, false, ◌&&◌, ◌||◌, not, get_or, length, eqb, ltb, leb}
+use Rattle.std.specs.Prelude.{ℕ, zero, suc, ◌+◌, ◌*◌, ◌/◌, ◌%◌, List, [], ◌∷◌, ◌++◌, Bool, false, ◌&&◌, ◌||◌, not, get_or, length, eqb, ltb, leb, Option, None}
 use Rattle.exact.specs.Index.{Capacity, sum_P_ME}
 use Rattle.exact.specs.Ranges.{engines_at, low}
 use Rattle.ship.specs.Record.{no_engine, no_crane}
@@ -257,5 +257,5 @@ abbrev pub tests : Bool → Ship → List (Bool × Refusal)
 tests zeros s = early_tests s ++ trial_tests zeros s
 
 -- The first refusal of a record, or none.
-unfoldable pub refusal_of : Ship → Refusal
-refusal_of s = first_of (tests false s) refusal.None
+unfoldable pub refusal_of : Ship → Option Refusal
+refusal_of s = first_of (tests false s) None

@@ -1,11 +1,15 @@
-// A ship's record, by value. Numbers are as its block has them; what they may be is said by the rules.
+// A ship's record, by value. Numbers are as its block has them; what they may be is said by the rules. Type, fuel, source, method, ice class,
+// edition, layout and supply stay numbers, and no enums, and limit 0 no Option, since every record gets its answer: `refusal_of`
+// (specs/Rules.antt) refuses numbers that mean nothing.
 #![tactic(auto)]
 
+pub mod accepted;
+pub mod kinds;
 pub mod power;
 
-ghost use Rattle.std.specs.Prelude.{◌≡◌};
+ghost use Rattle.std.specs.Prelude.{◌≡◌, Some, None, take, drop};
 ghost use Rattle.formula.specs.Words.{if};
-ghost use Rattle.ship.specs.Refusals.{number_of};
+ghost use Rattle.ship.specs.Refusals.{number_of, verdict};
 
 // Deadweight in tonnes and gross tonnage are types of their own, so that neither is accepted for the other.
 #[derive(Clone, Copy)]
@@ -19,14 +23,14 @@ pub struct GrossTonnage {
 }
 
 // Both ends count.
-#[derive(Clone, Copy)]
+#[derive(Clone, Copy, Default, PartialEq, Eq)]
 pub struct Range {
     pub low: u64,
     pub high: u64,
 }
 
 // SFC in 1/10 g/kWh. Source 1 is a test report, 2 the maker or a verifier, 3 neither.
-#[derive(Clone, Copy)]
+#[derive(Clone, Copy, Default, PartialEq, Eq)]
 pub struct Consumption {
     pub sfc: Range,
     pub fuel: u64,
@@ -34,7 +38,7 @@ pub struct Consumption {
 }
 
 // MCR and limit in kW; limit 0 is no limiter.
-#[derive(Clone, Copy)]
+#[derive(Clone, Copy, Default, PartialEq, Eq)]
 pub struct Engine {
     pub mcr: Range,
     pub limit: u64,
@@ -49,7 +53,7 @@ pub struct Trial {
 }
 
 // Displacement volume in m³; length, breadth and draught in 1/100 m.
-#[derive(Clone, Copy)]
+#[derive(Clone, Copy, Default, PartialEq, Eq)]
 pub struct Hull {
     pub volume: u64,
     pub length: u64,
@@ -58,7 +62,7 @@ pub struct Hull {
 }
 
 // Safe working load in tonnes and reach in metres, in tenths.
-#[derive(Clone, Copy)]
+#[derive(Clone, Copy, Default, PartialEq, Eq)]
 pub struct Crane {
     pub swl: u64,
     pub reach: u64,
@@ -101,62 +105,54 @@ pub struct Ship {
     pub engines: [Engine; 4],
 }
 
-// The first rule that a block, a record or a write breaks.
-#[derive(Clone, Copy)]
-pub enum Refusal {
-    None,
-    Length,
-    Check,
-    Layout,
-    ImoNumber,
-    ShipType,
-    Deadweight,
-    GrossTonnage,
-    CargoVolume,
-    Engines,
-    Consumption,
-    AuxiliaryPower,
-    IceClass,
-    Speed,
-    Ranges,
-    Trial,
-    Unused,
-    Build,
-    Edition,
-    NoBlock,
+// The engine entries that are used, which stand first, and the others.
+// (Number and entries stay two parameters: rules 9, 10, 14, 16 and 19 are defined over both, `any_used`, `any_unused`.)
+pub fn in_use(used: u64, engines: &[Engine; 4]) -> &[Engine]
+    ensures { result.now ≡ take used engines.now }
+{
+    &engines[..(used as usize).min(4)]
 }
 
-// The document's number of a refusal; 0 is none.
+pub fn unused(used: u64, engines: &[Engine; 4]) -> &[Engine]
+    ensures { result.now ≡ drop used engines.now }
+{
+    &engines[(used as usize).min(4)..]
+}
+
+// The rule that a block, a record or a write breaks, by the document's number; what breaks none has no refusal.
+#[derive(Clone, Copy, Debug, PartialEq, Eq)]
+pub enum Refusal {
+    Length = 1,
+    Check = 2,
+    Layout = 3,
+    ImoNumber = 4,
+    ShipType = 5,
+    Deadweight = 6,
+    GrossTonnage = 7,
+    CargoVolume = 8,
+    Engines = 9,
+    Consumption = 10,
+    AuxiliaryPower = 11,
+    IceClass = 12,
+    Speed = 13,
+    Ranges = 14,
+    Trial = 15,
+    Unused = 16,
+    NoBlock = 17,
+    Build = 18,
+    Edition = 19,
+}
+
+// The document's number of a refusal. (By this name, and no `From`: `ship` is among what a customer calls, docs/PROMISES.md.)
 pub fn number(refusal: Refusal) -> u8
     ensures { result ≡ number_of refusal }
 {
-    match refusal {
-        Refusal::None => 0,
-        Refusal::Length => 1,
-        Refusal::Check => 2,
-        Refusal::Layout => 3,
-        Refusal::ImoNumber => 4,
-        Refusal::ShipType => 5,
-        Refusal::Deadweight => 6,
-        Refusal::GrossTonnage => 7,
-        Refusal::CargoVolume => 8,
-        Refusal::Engines => 9,
-        Refusal::Consumption => 10,
-        Refusal::AuxiliaryPower => 11,
-        Refusal::IceClass => 12,
-        Refusal::Speed => 13,
-        Refusal::Ranges => 14,
-        Refusal::Trial => 15,
-        Refusal::Unused => 16,
-        Refusal::NoBlock => 17,
-        Refusal::Build => 18,
-        Refusal::Edition => 19,
-    }
+    refusal as u8
 }
 
-// The refusal where its rule is broken, else what the later rules say.
-pub fn first(broken: bool, refusal: Refusal, rest: Refusal) -> Refusal
-    ensures { result ≡ if broken refusal rest }
+// The refusal, where its rule is broken.
+pub fn refuse_if(broken: bool, refusal: Refusal) -> Result<(), Refusal>
+    ensures { result ≡ verdict (if broken (Some refusal) None) }
 {
-    if broken { refusal } else { rest }
+    if broken { Err(refusal) } else { Ok(()) }
 }

@@ -4,15 +4,17 @@
 ghost use Rattle.std.specs.Prelude.{◌≡◌, ◌^◌, ◌≤◌};
 ghost use Rattle.exact.specs.Index.{sized};
 ghost use Rattle.ship.specs.Accepted.{Within};
-ghost use Rattle.ship.specs.Figures.{kind_of, Listed, deadweight_of};
+ghost use Rattle.ship.specs.Figures.{deadweight_of};
+ghost use Rattle.ship.specs.Kinds.{type_of};
 ghost use Rattle.statistical.specs.Curves.{RowOf, average_of, less_margin_of, statistical_of};
 
 use power::Bounds;
 use propeller::{Split, speed_from};
 use ship::Deadweight;
+use ship::kinds::ShipType;
 
 // A row of method 4's table.
-#[derive(Drop)]
+#[derive(Clone, Copy)]
 struct Row {
     pub a: u64,
     pub c: u64,
@@ -20,47 +22,46 @@ struct Row {
     pub f: u64,
 }
 
-fn coefficients(a: u64, c: u64, d: u64, f: u64) -> Row
-    ensures { (result.a ≡ a) × (result.c ≡ c) × (result.d ≡ d) × (result.f ≡ f) }
+// The table of method 4: A and D in ten-thousandths, C and F in hundred-thousandths.
+#[tactic(auto, unfolding(exact::specs::Index::row))]
+fn row_of(kind: ShipType) -> Row
+    ensures { RowOf (type_of kind) result }
 {
+    let (a, c, d, f) = match kind {
+        ShipType::Bulk => (106585, 2706, 237510, 54087),
+        ShipType::Gas => (74462, 7604, 214704, 59522),
+        ShipType::Tanker => (81358, 5383, 228415, 55826),
+        ShipType::Container => (32395, 18294, 5042, 103046),
+        ShipType::Refrigerated => (10600, 31518, 272, 138634),
+        ShipType::Combination => (81391, 5378, 228536, 55820),
+        ShipType::Vehicle => (166773, 1802, 2627693, 39973),
+        ShipType::General => (24538, 18832, 8816, 92050),
+    };
     Row { a, c, d, f }
 }
 
-// The table of method 4: A and D in ten-thousandths, C and F in hundred-thousandths.
-fn row_of(kind: u64) -> Row
-    requires { Listed kind }
-    ensures { RowOf (kind_of kind) result }
+// The deadweight, for a container ship no more than `most`.
+#[tactic(auto, unfolding(exact::specs::Index::sized))]
+fn size(kind: ShipType, deadweight: Deadweight, most: u64) -> u64
+    ensures { result ≡ sized most (type_of kind) (deadweight_of deadweight) }
 {
     match kind {
-        1 => coefficients(106585, 2706, 237510, 54087),
-        2 => coefficients(74462, 7604, 214704, 59522),
-        3 => coefficients(81358, 5383, 228415, 55826),
-        4 => coefficients(32395, 18294, 5042, 103046),
-        5 => coefficients(10600, 31518, 272, 138634),
-        6 => coefficients(81391, 5378, 228536, 55820),
-        7 => coefficients(166773, 1802, 2627693, 39973),
-        8 => coefficients(24538, 18832, 8816, 92050),
-        _ => coefficients(0, 0, 0, 0),
+        ShipType::Container => deadweight.tonnes.min(most),
+        ShipType::Bulk
+        | ShipType::Gas
+        | ShipType::Tanker
+        | ShipType::Refrigerated
+        | ShipType::Combination
+        | ShipType::Vehicle
+        | ShipType::General => deadweight.tonnes,
     }
 }
 
-// The deadweight, for a container ship no more than `most`.
-fn size(kind: u64, deadweight: Deadweight, most: u64) -> u64
-    requires { Listed kind }
-    ensures { result ≡ sized most (kind_of kind) (deadweight_of deadweight) }
-{
-    let t = deadweight.tonnes;
-    if kind == 4 {
-        if t <= most { t } else { most }
-    } else {
-        t
-    }
-}
-
-// V_avg in 10^-9 knot.
-fn average(kind: u64, deadweight: Deadweight) -> Bounds
-    requires { Listed kind × Within 100 600000 deadweight.tonnes }
-    ensures { result ≡ average_of (kind_of kind) (deadweight_of deadweight) }
+// V_avg in 10^-9 knot. The limits of the deadweight stand in each contract, in speed and factor too: `average_of`, `cargo_factor` and the others
+// take a plain deadweight, so a type with the limits would be taken apart in each call.
+fn average(kind: ShipType, deadweight: Deadweight) -> Bounds
+    requires { Within 100 600000 deadweight.tonnes }
+    ensures { result ≡ average_of (type_of kind) (deadweight_of deadweight) }
 {
     let row = row_of(kind);
     let b = size(kind, deadweight, 80000);
@@ -73,21 +74,18 @@ fn average(kind: u64, deadweight: Deadweight) -> Bounds
 }
 
 // The larger of 0.95 v and v - 1 knot, in 10^-9 knot.
+#[tactic(auto, unfolding(crate::specs::Curves::less_margin_of))]
 fn less_margin(v: u64) -> u64
     requires { (1000000000 ≤ v) × (v ≤ 2 ^ 37) }
     ensures { result ≡ less_margin_of v }
 {
-    if v <= 20000000000 {
-        v * 95 / 100
-    } else {
-        v - 1000000000
-    }
+    (v * 95 / 100).max(v - 1000000000)
 }
 
-// Method 4; the power is the sum of P_ME in 1/100 kW. Rules 5, 6 and 9 bound type, deadweight and power.
-pub fn statistical(kind: u64, deadweight: Deadweight, power: u64) -> Bounds
-    requires { Listed kind × Within 100 600000 deadweight.tonnes × Within 7500 36000000 power }
-    ensures { result ≡ statistical_of (kind_of kind) (deadweight_of deadweight) power }
+// Method 4; the power is the sum of P_ME in 1/100 kW. Rules 6 and 9 bound deadweight and power.
+pub fn statistical(kind: ShipType, deadweight: Deadweight, power: u64) -> Bounds
+    requires { Within 100 600000 deadweight.tonnes × Within 7500 36000000 power }
+    ensures { result ≡ statistical_of (type_of kind) (deadweight_of deadweight) power }
 {
     let row = row_of(kind);
     let v = average(kind, deadweight);

@@ -3,7 +3,7 @@
 use mathlib.Core.Path.{◌≡◌, sym, ap, ◌∙◌}
 use borrow.Author.Tests.{eqb-true}
 use Rattle.fields.specs.Numbers.{number_at}
-use Rattle.fields.specs.Runs.{numbers_at, total, widths_of}
+use Rattle.fields.specs.Runs.{numbers_at, widths_of}
 use Rattle.fields.proofs.Runs.{zero_run}
 use Rattle.ship.specs.Record.{no_build}
 use Rattle.build_fields.specs.Fields.{front, cranes, sizes, added, build_from}
@@ -16,7 +16,7 @@ unfolding number_at
 zero_bytes c = eqb-true _ 0 (sym c.all_zero.ensures ∙ c.if-all_zero.true)
 
 pub returns-then-all_zero : goal.returns-then-all_zero
-unfolding build_from added front cranes sizes total
+unfolding build_from added front cranes sizes
 returns-then-all_zero c =
     let b = c.args.block.now in
     c.nothing_added.ensures ∙ sym (ap build_from (zero_run b 132 (widths_of (added no_build)) (zero_bytes (goal.at.returns-then-all_zero c).Then-all_zero)))

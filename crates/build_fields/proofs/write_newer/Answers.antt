@@ -2,13 +2,13 @@
 -- Assumes nothing.
 use mathlib.Core.Path.{refl}
 use mathlib.Core.List.{[], ◌++◌}
-use Rattle.fields.specs.Runs.{pack, total}
+use Rattle.fields.specs.Runs.{pack}
 use Rattle.fields.proofs.Runs.{then_run, run_written}
 use Rattle.build_fields.specs.Fields.{front, cranes, sizes, rest, added, newer}
 use Rattle.build_fields.proofs.write_newer.Goals as goal
 
 pub returns : goal.returns
-unfolding newer added front cranes sizes total pack
+unfolding newer added front cranes sizes pack
 returns c =
     let c_sizes = c in
     let c_gear = c_sizes in

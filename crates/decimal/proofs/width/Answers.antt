@@ -1,37 +1,11 @@
--- `decimal::width` meets its contract. The bound is the power of ten that has `digits` digits, and n has as many or more.
+-- `decimal::width` meets its contract.
 -- Assumes nothing.
-use mathlib.Core.Path.{refl}
-use native.Mathlib.Nat.{pow-suc, pow-le-pow_right}
-use native.Mathlib.Numerals.{add-one}
-use native.Mathlib.Omega.{arith}
-use Rattle.decimal.proofs.Spelling.{width_least, width_within, width_beyond, width_limit}
+use Rattle.std.proofs.Common.{sym, arith}
+use Rattle.decimal.proofs.Spelling.{width_small, width_from_log}
 use Rattle.decimal.proofs.width.Goals as goal
 
-pub loop-digits-init : goal.loop-digits-init
-loop-digits-init c = (omega arith, omega arith, width_least _, refl)
+pub returns-in-Some-clause-value : goal.returns-in-Some-clause-value
+returns-in-Some-clause-value c = width_from_log c.in-Some.log c.args.n c.in-Some.ensures.power_le c.in-Some.ensures.next_power_gt
 
-pub overflow_mul-bound : goal.overflow_mul-bound
-overflow_mul-bound c = omega (arith, pow-le-pow_right {n = 10} (omega arith) {i = c.loop-digits.digits} {j = 19} (omega arith))
-
-pub returns-then-n-bound : goal.returns-then-n-bound
-returns-then-n-bound c =
-    let l = c in
-    omega (arith, width_within l.loop-digits.digits l.args.n (omega arith) (omega arith))
-
-pub overflow_add-digits : goal.overflow_add-digits
-overflow_add-digits c = omega arith
-
-pub loop-digits-smaller : goal.loop-digits-smaller
-loop-digits-smaller c = omega arith
-
-pub loop-digits-preserved : goal.loop-digits-preserved
-loop-digits-preserved c =
-    let l = c in (
-      omega arith,
-      omega arith,
-      omega (arith, width_beyond l.loop-digits.digits l.args.n (omega arith)),
-      rw (add-one, pow-suc) (omega arith),
-    )
-
-pub returns : goal.returns
-returns c = omega (arith, width_limit c.args.n (omega arith))
+pub returns-in-None-clause-value : goal.returns-in-None-clause-value
+returns-in-None-clause-value c = sym (width_small c.args.n (omega (arith, c.in-None.ensures.none)))

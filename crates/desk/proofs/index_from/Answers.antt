@@ -1,15 +1,22 @@
 -- `desk::index_from` meets its contract.
 -- Assumes nothing.
-use mathlib.Core.Path.{refl, ap, ◌∙◌}
-use Rattle.ship.specs.Rules.{refusal_of}
-use Rattle.desk.specs.Worked.{answer_found}
-use Rattle.desk.specs.declared.Step.TheVariants.{Index}
+use mathlib.Core.Path.{sym, ◌∙◌}
+use Rattle.std.proofs.Common.{rules}
+use Rattle.block.proofs.Answering.{passed, failed}
 use Rattle.desk.specs.Steps.{index_answer}
-use Rattle.desk.proofs.Working.{answer_worked}
+use Rattle.desk.proofs.Demands.{both_refused}
 use Rattle.desk.proofs.index_from.Goals as goal
+
+pub returns-in_err-check : goal.returns-in_err-check
+returns-in_err-check c =
+    let k = sym ((both_refused c.args.s (failed _ (sym c.check.ensures ∙ c.in_err-check.was))).1 c.args.handed) in
+    search rules
+
+pub new-requires : goal.new-requires
+new-requires c = passed _ (sym c.check.ensures ∙ c.in_ok-check.was)
 
 pub returns : goal.returns
 unfolding index_answer
 returns c =
-    let a = c.args in
-    c.told.ensures ∙ ap answer_found c.of_record.ensures ∙ answer_worked Index (refusal_of a.s) a.s a.handed refl
+    let none = passed _ (sym c.check.ensures ∙ c.in_ok-check.was) in
+    rw (c.attained_from.ensures, c.new.ensures, none)

@@ -1,15 +1,25 @@
 -- `desk::index_from_block` meets its contract.
 -- Assumes nothing.
-use mathlib.Core.Path.{refl, ap, ◌∙◌}
-use Rattle.block.specs.Answers.{read_refusal, read_of}
-use Rattle.desk.specs.Worked.{answer_found}
-use Rattle.desk.specs.declared.Step.TheVariants.{Index}
+use mathlib.Core.Path.{sym, ◌∙◌}
+use Rattle.std.proofs.Common.{rules}
+use Rattle.block.proofs.Trips.{record_accepted}
+use Rattle.block.proofs.Theorems.{read_accepted, read_refused}
 use Rattle.desk.specs.Steps.{index_answer_of_block}
-use Rattle.desk.proofs.Working.{answer_worked}
+use Rattle.desk.proofs.Demands.{steps_refused}
 use Rattle.desk.proofs.index_from_block.Goals as goal
+
+pub returns-in_err-read : goal.returns-in_err-read
+returns-in_err-read c =
+    let k = sym ((steps_refused c.args.block.now (read_refused _ (sym c.read.ensures ∙ c.in_err-read.was))).1 c.args.handed) in
+    search rules
+
+pub new-requires : goal.new-requires
+new-requires c =
+    let a = read_accepted _ (sym c.read.ensures ∙ c.in_ok-read.was) in
+    rw a.1 (record_accepted _ a.0)
 
 pub returns : goal.returns
 unfolding index_answer_of_block
 returns c =
-    let a = c.args in
-    c.told.ensures ∙ ap answer_found c.of_block.ensures ∙ answer_worked Index (read_refusal a.block.now) (read_of a.block.now).ship a.handed refl
+    let a = read_accepted _ (sym c.read.ensures ∙ c.in_ok-read.was) in
+    rw (c.attained_from.ensures, c.new.ensures, a.1, a.0)

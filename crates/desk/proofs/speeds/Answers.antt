@@ -1,14 +1,20 @@
 -- `desk::speeds` meets its contract.
 -- Assumes nothing.
-use mathlib.Core.Path.{ap, ◌∙◌}
-use Rattle.ship.specs.Rules.{refusal_of}
-use Rattle.desk.specs.Worked.{speeds_found}
-use Rattle.desk.specs.Steps.{speeds_answer}
-use Rattle.desk.proofs.Working.{speeds_worked}
+use mathlib.Core.Path.{sym, ◌∙◌}
+use Rattle.std.proofs.Common.{rules}
+use Rattle.block.proofs.Answering.{passed, failed}
+use Rattle.desk.proofs.Demands.{both_refused, speed_settled}
 use Rattle.desk.proofs.speeds.Goals as goal
 
+pub returns-in_err-check : goal.returns-in_err-check
+returns-in_err-check c =
+    let k = sym (both_refused c.args.s (failed _ (sym c.check.ensures ∙ c.in_err-check.was))).0 in
+    search rules
+
+pub new-requires : goal.new-requires
+new-requires c = passed _ (sym c.check.ensures ∙ c.in_ok-check.was)
+
 pub returns : goal.returns
-unfolding speeds_answer
 returns c =
-    let a = c.args in
-    c.told_speed.ensures ∙ ap speeds_found c.of_record.ensures ∙ speeds_worked (refusal_of a.s) a.s c.no_speeds.result
+    let none = passed _ (sym c.check.ensures ∙ c.in_ok-check.was) in
+    rw (c.speeds.ensures, c.new.ensures) (sym (speed_settled c.args.s none))

@@ -2,14 +2,14 @@
 -- Assumes nothing.
 use mathlib.Core.Path.{refl}
 use mathlib.Core.List.{[], ◌++◌}
-use Rattle.fields.specs.Runs.{pack, total}
+use Rattle.fields.specs.Runs.{pack}
 use Rattle.fields.proofs.Runs.{then_run, run_written}
 use Rattle.build_fields.specs.Fields.{front, cranes, sizes, added, newer}
 use Rattle.layout.specs.Layout.{head, entry, entries, fields, body}
 use Rattle.layout.proofs.write_body.Goals as goal
 
 pub returns : goal.returns
-unfolding body fields head entries entry front cranes sizes added newer total pack
+unfolding body fields head entries entry front cranes sizes added newer pack
 returns c =
     let c_newer = c in
     let c_entries = c_newer in

@@ -15,8 +15,5 @@ step n near h from to =
       | no big ↦ omega (arith, lt_of_not-le big, mul-le-mul_left (n / near) from)
     ]
 
-pub overflow_add-near : goal.overflow_add-near
-overflow_add-near c = omega (arith, step _ _ c.requires.0 c.requires.1 c.requires.2)
-
 pub square_root_from-requires : goal.square_root_from-requires
 square_root_from-requires c = (newton_square _ _ (omega arith), omega (arith, step _ _ c.requires.0 c.requires.1 c.requires.2))

@@ -12,7 +12,7 @@ unfolding plain_of
 returns c =
     let roots = c in
     let given = roots.args in
-    let pair : roots.raise-r.result ≡ running given.a given.b given.p given.q = rw roots.base-x.ensures at roots.raise-r.ensures in
+    let pair : roots.raise-r.result ≡ running given.a given.b given.p given.q = rw roots.of_fraction.ensures at roots.raise-r.ensures in
     let lower : c.whole.result ≡ val roots.raise-r.result.lo = c.whole.ensures in
     let upper : c.whole-2.result ≡ val roots.raise-r.result.hi = c.whole-2.ensures in
     rw (ne_eqb _ _ roots.if-a-b.false, lower, upper, pair)
@@ -24,10 +24,10 @@ returns-then-a-b c =
     rw (eq-eqb _ _ same)
 
 pub raise-r-requires : goal.raise-r-requires
-raise-r-requires c = rw c.base-x.ensures (base_is c.requires).ready
+raise-r-requires c = rw c.of_fraction.ensures (base_is c.requires).ready
 
 pub whole-requires : goal.whole-requires
-whole-requires c = rw (c.raise-r.ensures, c.base-x.ensures) ((running_holds c.requires).norm below)
+whole-requires c = rw (c.raise-r.ensures, c.of_fraction.ensures) ((running_holds c.requires).norm below)
 
 pub whole-requires-2 : goal.whole-requires-2
-whole-requires-2 c = rw (c.raise-r.ensures, c.base-x.ensures) ((running_holds c.requires).norm above)
+whole-requires-2 c = rw (c.raise-r.ensures, c.of_fraction.ensures) ((running_holds c.requires).norm above)

@@ -1,60 +1,60 @@
 -- `plant::emissions` meets its contract.
 -- Assumes nothing.
 use mathlib.Core.Bool.{true, false}
-use native.Mathlib.Nat.{mul-le-mul}
 use native.Mathlib.Omega.{arith}
-use borrow.Author.Rules.{rules}
-use Rattle.ship.proofs.Typed.{four}
-use Rattle.plant.proofs.Records.{AcceptedPlant, plant_accepted, Summed, summed}
+use Rattle.ship.specs.Figures.{mains}
+use Rattle.plant.proofs.Records.{plant_accepted, Summed, summed}
 use Rattle.plant.proofs.emissions.Goals as goal
-use Rattle.plant.proofs.emissions.Goals.{After-main_sums-sums, Start}
+use Rattle.plant.proofs.emissions.Goals.{After-main_sums}
 
-given : (c : Start) → AcceptedPlant c.args.s
-given c = plant_accepted c.args.s (four c.args.s _ c.well_formed.0) c.requires
+low_end : (c : After-main_sums) → Summed c.args.a.now false c.main_sums.result.0
+unfolding mains
+low_end c = summed c.args.a.now false _ c.main_sums.ensures.low_end
 
--- The sums at the two ends.
-module _ (c : After-main_sums-sums) where
-  lows : Summed c.args.s false c.main_sums-sums.result.low
-  lows = summed c.args.s (four c.args.s _ c.well_formed.0) c.requires false _ c.main_sums-sums.ensures.0
+high_end : (c : After-main_sums) → Summed c.args.a.now true c.main_sums.result.1
+unfolding mains
+high_end c = summed c.args.a.now true _ c.main_sums.ensures.high_end
 
-  highs : Summed c.args.s true c.main_sums-sums.result.high
-  highs = summed c.args.s (four c.args.s _ c.well_formed.0) c.requires true _ c.main_sums-sums.ensures.1
+pub main_sums-requires : goal.main_sums-requires
+main_sums-requires c =
+    let w = plant_accepted c.args.a.now in
+    (w.most, w.used, w.engines)
 
-pub main_sums-sums-requires : goal.main_sums-sums-requires
-main_sums-sums-requires c =
-    let w = given (goal.at.main_sums-sums-requires c).Start in
-    (w.used, w.engines)
+pub overflow_mul-result : goal.overflow_mul-result
+overflow_mul-result c = omega (arith, (low_end (goal.at.overflow_mul-result c).After-main_sums).small)
 
-pub overflow_mul-main : goal.overflow_mul-main
-overflow_mul-main c = omega (arith, (lows (goal.at.overflow_mul-main c).After-main_sums-sums).small)
+pub overflow_mul-result-2 : goal.overflow_mul-result-2
+overflow_mul-result-2 c = omega (arith, (high_end (goal.at.overflow_mul-result-2 c).After-main_sums).small)
 
-pub overflow_mul-main-2 : goal.overflow_mul-main-2
-overflow_mul-main-2 c = omega (arith, (highs (goal.at.overflow_mul-main-2 c).After-main_sums-sums).small)
+pub auxiliary_emission-requires-clause-measured : goal.auxiliary_emission-requires-clause-measured
+auxiliary_emission-requires-clause-measured c = rw c.uses-uses.ensures (plant_accepted c.args.a.now).uses
 
-pub auxiliary_power-requires : goal.auxiliary_power-requires
-auxiliary_power-requires c = ((given (goal.at.auxiliary_power-requires c).Start).supplied, (lows (goal.at.auxiliary_power-requires c).After-main_sums-sums).mcr)
+pub auxiliary_emission-requires-clause-supplied : goal.auxiliary_emission-requires-clause-supplied
+auxiliary_emission-requires-clause-supplied c = (
+  rw c.auxiliary-auxiliary.ensures (plant_accepted c.args.a.now).supplied,
+  (low_end (goal.at.auxiliary_emission-requires-clause-supplied c).After-main_sums).mcr,
+)
 
-pub emission-requires : goal.emission-requires
-emission-requires c = record { measured = (given (goal.at.emission-requires c).Start).uses; within = search rules }
+pub auxiliary_emission-requires-2-clause-measured : goal.auxiliary_emission-requires-2-clause-measured
+auxiliary_emission-requires-2-clause-measured c = rw c.uses-uses.ensures (plant_accepted c.args.a.now).uses
 
-pub overflow_mul-auxiliary : goal.overflow_mul-auxiliary
-overflow_mul-auxiliary c = omega (arith, mul-le-mul c.auxiliary_power.ensures.1 c.emission.ensures.1)
-
-pub auxiliary_power-requires-2 : goal.auxiliary_power-requires-2
-auxiliary_power-requires-2 c = ((given (goal.at.auxiliary_power-requires-2 c).Start).supplied, (highs (goal.at.auxiliary_power-requires-2 c).After-main_sums-sums).mcr)
-
-pub emission-requires-2 : goal.emission-requires-2
-emission-requires-2 c = record { measured = (given (goal.at.emission-requires-2 c).Start).uses; within = search rules }
-
-pub overflow_mul-auxiliary-2 : goal.overflow_mul-auxiliary-2
-overflow_mul-auxiliary-2 c = omega (arith, mul-le-mul c.auxiliary_power-2.ensures.1 c.emission-2.ensures.1)
+pub auxiliary_emission-requires-2-clause-supplied : goal.auxiliary_emission-requires-2-clause-supplied
+auxiliary_emission-requires-2-clause-supplied c = (
+  rw c.auxiliary-auxiliary.ensures (plant_accepted c.args.a.now).supplied,
+  (high_end (goal.at.auxiliary_emission-requires-2-clause-supplied c).After-main_sums).mcr,
+)
 
 pub returns : goal.returns
 returns c =
-    let m = (goal.at.returns c).After-main_sums-sums in
-    cc (
-      (lows m).main,
-      (highs m).main,
-      (lows m).auxiliary c.auxiliary_power.ensures.0 c.emission.ensures.0,
-      (highs m).auxiliary c.auxiliary_power-2.ensures.0 c.emission-2.ensures.0,
+    let l = low_end (goal.at.returns c).After-main_sums in
+    let h = high_end (goal.at.returns c).After-main_sums in
+    let a = c.auxiliary-auxiliary.ensures in
+    let u = c.uses-uses.ensures in
+    rw (
+      ← l.main,
+      ← h.main,
+      ← l.auxiliary a u,
+      ← h.auxiliary a u,
+      c.auxiliary_emission.ensures,
+      c.auxiliary_emission-2.ensures,
     )

@@ -14,7 +14,7 @@ both e f = rw (← e, ← f)
 
 pub power_sums-requires : goal.power_sums-requires
 power_sums-requires c =
-    let k = engines_inside c.args.s.particulars.used c.args.s.engines (no_refusal c.args.s c.requires).early.engines in
+    let k = engines_inside c.args.a.now.ship.particulars.used c.args.a.now.ship.engines (no_refusal _ c.args.a.now.accepted).early.engines in
     (k.0.most, k.1)
 
 pub returns : goal.returns

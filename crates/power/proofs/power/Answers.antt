@@ -3,7 +3,6 @@ use mathlib.Core.Path.{◌≡◌}
 use native.Mathlib.Omega.{arith}
 use borrow.Author.Tests.{eq-eqb, ne_eqb}
 use Rattle.power.specs.Power.{power_of}
-use Rattle.power.proofs.Logs.{quotient_low, quotient_high}
 use Rattle.power.proofs.Laws.{share_fits, whole_few, lower_fits}
 use Rattle.power.proofs.power.Goals as goal
 
@@ -12,11 +11,6 @@ unfolding power_of
 returns-then-a-b c =
     let same : c.args.a ≡ c.args.b = c.if-a-b.true in
     rw (eq-eqb _ _ same)
-
-pub logarithm-requires : goal.logarithm-requires
-logarithm-requires c =
-    let at = c.requires in
-    (quotient_low at.some at.from_one at.moderate, quotient_high at.some at.from_one at.moderate)
 
 pub overflow_mul-e : goal.overflow_mul-e
 overflow_mul-e c = record { fits = rw c.logarithm.ensures (share_fits c.requires) }

@@ -3,7 +3,6 @@ use Prim.Native.Nat.{ℕ, ◌+◌, ◌*◌, ◌/◌, ◌^◌, ◌<◌}
 use native.Mathlib.Nat.{mul-pos, lt-div-mul-add}
 use native.Mathlib.Omega.{arith}
 use Rattle.formula.proofs.Wholes.{square, cube}
-use Rattle.root.proofs.Roots.{square_fits, cube_fits}
 use Rattle.root.proofs.Newton.{newton, above_root, part_below}
 use Rattle.quick_root.proofs.Starts.{start_above}
 use Rattle.quick_root.proofs.cube_root.Goals as goal
@@ -21,27 +20,6 @@ falls n r h = part_below n r (r * r) (square_some n r h) h
 
 pub loop-r-init : goal.loop-r-init
 loop-r-init c = start_above c.ranges.n.fits c.start-r.ensures
-
-pub overflow_mul-r : goal.overflow_mul-r
-overflow_mul-r c = record { fits = square_fits c.loop-r.invariant.1 }
-
-pub overflow_mul-r-in-loop-r : goal.overflow_mul-r-in-loop-r
-overflow_mul-r-in-loop-r c = record { fits = cube_fits c.loop-r.invariant.1 }
-
-pub overflow_mul-r-in-loop-r-2 : goal.overflow_mul-r-in-loop-r-2
-overflow_mul-r-in-loop-r-2 c = omega (arith, c.loop-r.invariant.1)
-
-pub overflow_mul-r-in-loop-r-3 : goal.overflow_mul-r-in-loop-r-3
-overflow_mul-r-in-loop-r-3 c = record { fits = square_fits c.loop-r.invariant.1 }
-
-pub nonzero_div-r : goal.nonzero_div-r
-nonzero_div-r c = square_some _ _ c.loop-r-test.true
-
-pub overflow_add-r : goal.overflow_add-r
-overflow_add-r c = omega (arith, falls _ _ c.loop-r-test.true, c.loop-r.invariant.1)
-
-pub loop-r-smaller : goal.loop-r-smaller
-loop-r-smaller c = omega (arith, falls _ _ c.loop-r-test.true)
 
 pub loop-r-preserved : goal.loop-r-preserved
 loop-r-preserved c =

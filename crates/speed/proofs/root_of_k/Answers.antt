@@ -1,5 +1,7 @@
 -- `speed::root_of_k` meets its contract. Assumes nothing.
+use Prim.Native.Nat.{◌<◌}
 use native.Mathlib.Omega.{arith}
+use Rattle.number.proofs.Divisions.{div_ceil_named}
 use Rattle.power.specs.Power.{Power}
 use Rattle.power.proofs.Laws.{power_law}
 use Rattle.speed.specs.Speeds.{k_root_of}
@@ -14,18 +16,11 @@ pub nonzero_div-lo : goal.nonzero_div-lo
 nonzero_div-lo c =
     omega (arith, law (goal.at.nonzero_div-lo c).After-power-y)
 
-pub overflow_sub-hi : goal.overflow_sub-hi
-overflow_sub-hi c =
-    omega (arith, law (goal.at.overflow_sub-hi c).After-power-y)
-
-pub overflow_add-hi : goal.overflow_add-hi
-overflow_add-hi c =
-    omega (arith, law (goal.at.overflow_add-hi c).After-power-y)
-
-pub nonzero_div-hi : goal.nonzero_div-hi
-nonzero_div-hi c =
-    omega (arith, law (goal.at.nonzero_div-hi c).After-power-y)
+pub div_ceil-hi-requires : goal.div_ceil-hi-requires
+div_ceil-hi-requires c = omega (arith, law (goal.at.div_ceil-hi-requires c).After-power-y)
 
 pub returns : goal.returns
 unfolding k_root_of
-returns c = rw c.power-y.ensures
+returns c =
+    let some : 0 < c.power-y.result.lo = omega (arith, law (goal.at.returns c).After-power-y) in
+    rw (c.div_ceil-hi.ensures, div_ceil_named _ _ some, c.power-y.ensures)

@@ -1,7 +1,8 @@
 -- `statistical::average` meets its contract. Assumes nothing.
 use Prim.Native.Nat.{◌*◌, ◌^◌, ◌≤◌}
 use native.Mathlib.Omega.{arith}
-use Rattle.ship.specs.Figures.{kind_of, deadweight_of}
+use Rattle.ship.specs.Figures.{deadweight_of}
+use Rattle.ship.specs.Kinds.{type_of}
 use Rattle.statistical.specs.Curves.{average_of}
 use Rattle.statistical.proofs.Rows.{row_fits}
 use Rattle.statistical.proofs.Statistics.{average_raisable, low_fits, high_fits}
@@ -14,17 +15,14 @@ fits : (c : After-power-x)
     × (c.row_of-row.result.a * 3125 * c.power-x.result.lo ≤ 2 ^ 62)
     × (c.row_of-row.result.a * 3125 * c.power-x.result.hi ≤ 2 ^ 62)
 fits c =
-    let row = c in
-    let s = row in
-    let kind = kind_of s.args.kind in
-    let dwt = deadweight_of s.args.deadweight in
-    rw (c.power-x.ensures, c.size-b.ensures, row.row_of-row.ensures.c_is, row.row_of-row.ensures.a_is)
-    ((row_fits kind).1.a_high, omega (arith, low_fits kind dwt s.requires.1), omega (arith, high_fits kind dwt s.requires.1))
+    let kind = type_of c.args.kind in
+    let dwt = deadweight_of c.args.deadweight in
+    rw (c.power-x.ensures, c.size-b.ensures, c.row_of-row.ensures.c_is, c.row_of-row.ensures.a_is)
+    ((row_fits kind).1.a_high, omega (arith, low_fits kind dwt c.requires), omega (arith, high_fits kind dwt c.requires))
 
 pub power-x-requires : goal.power-x-requires
 power-x-requires c =
-    let s = c in
-    rw (c.size-b.ensures, c.row_of-row.ensures.c_is) (average_raisable (kind_of s.args.kind) (deadweight_of s.args.deadweight) s.requires.1)
+    rw (c.size-b.ensures, c.row_of-row.ensures.c_is) (average_raisable (type_of c.args.kind) (deadweight_of c.args.deadweight) c.requires)
 
 pub overflow_mul-t : goal.overflow_mul-t
 overflow_mul-t c =
@@ -44,6 +42,4 @@ overflow_add-result c =
 
 pub returns : goal.returns
 unfolding average_of
-returns c =
-    let at = c in
-    rw (at.power-x.ensures, at.size-b.ensures, at.row_of-row.ensures.c_is, at.row_of-row.ensures.a_is)
+returns c = rw (c.power-x.ensures, c.size-b.ensures, c.row_of-row.ensures.c_is, c.row_of-row.ensures.a_is)

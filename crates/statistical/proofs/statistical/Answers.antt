@@ -2,7 +2,8 @@
 use Prim.Native.Nat.{◌^◌, ◌≤◌}
 use native.Mathlib.Nat.{le_trans}
 use native.Mathlib.Omega.{arith}
-use Rattle.ship.specs.Figures.{kind_of, deadweight_of}
+use Rattle.ship.specs.Figures.{deadweight_of}
+use Rattle.ship.specs.Kinds.{type_of}
 use Rattle.statistical.specs.Curves.{statistical_of}
 use Rattle.statistical.proofs.Rows.{row_fits}
 use Rattle.statistical.proofs.Statistics.{Averaged, averaged, kept, over_raisable, statistical_parted, statistical_moderate}
@@ -12,14 +13,12 @@ use Rattle.statistical.proofs.statistical.Goals.{After-average-v}
 pub returns : goal.returns
 unfolding statistical_of
 returns c =
-    let size = c in
-    let low = size in
-    let row = low.row_of-row.ensures in
-    rw (c.speed_from.ensures, low.less_margin.ensures, size.less_margin-2.ensures, low.average-v.ensures, c.power-over.ensures)
-    (rw (size.size-e.ensures, row.f_is, row.d_is))
+    let row = c.row_of-row.ensures in
+    rw (c.speed_from.ensures, c.less_margin.ensures, c.less_margin-2.ensures, c.average-v.ensures, c.power-over.ensures)
+    (rw (c.size-e.ensures, row.f_is, row.d_is))
 
-average_is : (c : After-average-v) → Averaged (kind_of c.args.kind) (deadweight_of c.args.deadweight) c.average-v.result
-average_is c = rw c.average-v.ensures (averaged _ _ c.requires.1)
+average_is : (c : After-average-v) → Averaged (type_of c.args.kind) (deadweight_of c.args.deadweight) c.average-v.result
+average_is c = rw c.average-v.ensures (averaged _ _ c.requires.0)
 
 pub less_margin-requires : goal.less_margin-requires
 less_margin-requires c =
@@ -38,24 +37,18 @@ overflow_add-base c =
 
 pub power-over-requires : goal.power-over-requires
 power-over-requires c =
-    let s = c in
     rw (c.size-e.ensures, c.row_of-row.ensures.f_is)
-    (over_raisable (kind_of s.args.kind) (deadweight_of s.args.deadweight) s.args.power s.requires.1 s.requires.2)
+    (over_raisable (type_of c.args.kind) (deadweight_of c.args.deadweight) c.args.power c.requires.0 c.requires.1)
 
 pub overflow_mul-row : goal.overflow_mul-row
 overflow_mul-row c =
-    let row = c in
-    let h : row.row_of-row.result.d ≤ 2627693 = rw row.row_of-row.ensures.d_is (row_fits (kind_of row.args.kind)).1.d_high in
+    let h : c.row_of-row.result.d ≤ 2627693 = rw c.row_of-row.ensures.d_is (row_fits (type_of c.args.kind)).1.d_high in
     omega arith
 
 pub speed_from-requires : goal.speed_from-requires
 speed_from-requires c =
-    let size = c in
-    let low = size in
-    let row = low in
-    let s = row in
-    let kind = kind_of s.args.kind in
-    let dwt = deadweight_of s.args.deadweight in
-    rw (low.less_margin.ensures, size.less_margin-2.ensures, low.average-v.ensures, c.power-over.ensures, size.size-e.ensures)
-    (rw (row.row_of-row.ensures.f_is, row.row_of-row.ensures.d_is)
-    (statistical_parted kind dwt s.args.power s.requires.1 s.requires.2, statistical_moderate kind dwt s.args.power s.requires.1 s.requires.2))
+    let kind = type_of c.args.kind in
+    let dwt = deadweight_of c.args.deadweight in
+    rw (c.less_margin.ensures, c.less_margin-2.ensures, c.average-v.ensures, c.power-over.ensures, c.size-e.ensures)
+    (rw (c.row_of-row.ensures.f_is, c.row_of-row.ensures.d_is)
+    (statistical_parted kind dwt c.args.power c.requires.0 c.requires.1, statistical_moderate kind dwt c.args.power c.requires.0 c.requires.1))

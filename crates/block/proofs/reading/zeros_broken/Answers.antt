@@ -1,6 +1,6 @@
--- `block::reading::zeros_broken` meets its contract.
+-- `block::reading::zeros_broken` meets its contract: it reads the runs that no field has, by the table.
 -- Assumes nothing.
-use mathlib.Core.Bool.{◌||◌}
+use Rattle.std.proofs.Common.{rules}
 use Rattle.fields.specs.Runs.{numbers_at}
 use Rattle.layout.specs.Layout.{head, entry, entries, fields, widths, numbers_in}
 use Rattle.block.specs.Answers.{zeros_refused}
@@ -8,11 +8,4 @@ use Rattle.block.proofs.reading.zeros_broken.Goals as goal
 
 pub returns : goal.returns
 unfolding zeros_refused numbers_in numbers_at widths fields head entries entry
-returns c =
-    let c3 = c in
-    λ i. c3.not_zero.ensures i
-    || c3.not_zero-2.ensures i
-    || c3.not_zero-3.ensures i
-    || c.not_zero-4.ensures i
-    || c.not_zero-5.ensures i
-    || c.rest_broken.ensures i
+returns c = search rules

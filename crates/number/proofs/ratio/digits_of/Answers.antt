@@ -1,28 +1,25 @@
--- `number::ratio::digits_of` meets its contract: m is d times 8 for each digit that was taken off. Assumes nothing.
-use native.Mathlib.Omega.{arith}
-use Rattle.number.proofs.Ratios.{none_counted, digit_left, one_counted, all_counted}
+-- `number::ratio::digits_of` meets its contract. Assumes nothing.
+use native.Mathlib.Nat.{div-le_self, lt_of_le_of_lt}
+use Prim.Native.Nat.{ℕ, ◌-◌, ◌/◌, ◌^◌, ◌≤◌, ◌<◌}
+use Rattle.std.specs.Int.{div_ceil}
+use Rattle.std.specs.Int.Count.{count_leading_zeros}
+use Rattle.std.proofs.lemmas.Nat.{leading_length}
+use Rattle.number.specs.Ratio.{Moderate, Scaled}
+use Rattle.number.proofs.Ratios.{thirds}
 use Rattle.number.proofs.ratio.digits_of.Goals as goal
 
-pub loop-m-init : goal.loop-m-init
-loop-m-init c = none_counted c.requires
+counted : (n d : ℕ) → n < 2 ^ 64 → Moderate n d
+    → (div_ceil (64 - count_leading_zeros 64 (n / d)) 3 ≤ 21) × Scaled n d (21 - div_ceil (64 - count_leading_zeros 64 (n / d)) 3)
+counted n d fits given =
+    let t = leading_length 64 (n / d) (lt_of_le_of_lt (div-le_self n d) fits) in
+    thirds _ t.0 given t.1 t.2 t.3
 
-pub overflow_mul-m : goal.overflow_mul-m
-overflow_mul-m c = omega (arith, c.loop-m-test.true, c.requires.small)
-
-pub overflow_sub-digits : goal.overflow_sub-digits
-overflow_sub-digits c =
+pub overflow_sub-result : goal.overflow_sub-result
+overflow_sub-result c =
     let at = c in
-    digit_left _ _ _ _ at.requires c.loop-m-test.true at.loop-m.invariant
-
-pub loop-m-smaller : goal.loop-m-smaller
-loop-m-smaller c =
-    let at = c in
-    omega (arith, digit_left _ _ _ _ at.requires c.loop-m-test.true at.loop-m.invariant)
-
-pub loop-m-preserved : goal.loop-m-preserved
-loop-m-preserved c =
-    let at = c in
-    one_counted _ _ _ _ (digit_left _ _ _ _ at.requires c.loop-m-test.true at.loop-m.invariant) c.loop-m-test.true at.loop-m.invariant
+    rw c.div_ceil.ensures (counted _ _ at.ranges.n.fits at.requires).0
 
 pub returns : goal.returns
-returns c = all_counted c.loop-m-test.false c.loop-m.invariant
+returns c =
+    let at = c in
+    rw c.div_ceil.ensures (counted _ _ at.ranges.n.fits at.requires).1

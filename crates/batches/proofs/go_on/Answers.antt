@@ -1,7 +1,0 @@
--- `batches::go_on` meets its contract.
--- Assumes nothing.
-use mathlib.Core.Path.{refl}
-use Rattle.batches.proofs.go_on.Goals as goal
-
-pub returns : goal.returns
-returns c = refl

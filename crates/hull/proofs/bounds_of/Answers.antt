@@ -1,7 +1,0 @@
--- `hull::bounds_of` meets its contract.
--- Assumes nothing.
-use mathlib.Core.Path.{refl}
-use Rattle.hull.proofs.bounds_of.Goals as goal
-
-pub returns : goal.returns
-returns c = refl

@@ -1,7 +1,0 @@
--- `hull_rules::imo_broken` meets its contract.
--- Written out so that a wrong limit is shown here, at what it breaks. Assumes nothing.
-use mathlib.Core.Path.{refl}
-use Rattle.hull_rules.proofs.imo_broken.Goals as goal
-
-pub returns : goal.returns
-returns c = refl

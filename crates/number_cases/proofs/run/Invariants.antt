@@ -1,9 +1,0 @@
--- `number_cases::run` ends: it takes at most a million cases. Assumes nothing.
-use Prim.Native.Nat.{◌-◌, ◌≤◌}
-use Rattle.number_cases.proofs.run.Given as goal
-
-abbrev pub invariant-loop-n : goal.invariant-loop-n
-invariant-loop-n l = l.n ≤ 1000000
-
-abbrev pub decreases-loop-n : goal.decreases-loop-n
-decreases-loop-n l = 1000000 - l.n
