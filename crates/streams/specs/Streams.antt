@@ -67,6 +67,11 @@ abbrev pub sent_after : Result (Unit {0}) Error → Result (Unit {0}) Unsent
 sent_after (Ok all) = Ok all
 sent_after (Err error) = Err (unsent error)
 
+-- What came of one write, whatever it answered.
+pub record Written (r : Result (Unit {0}) Unsent) : Type 0 where
+  pub answer : Result (Unit {0}) Error
+  pub told : r ≡ sent_after answer
+
 -- ── What is said ────────────────────────────────────────────────────────────────────────────
 
 -- A text's bytes, in ASCII.

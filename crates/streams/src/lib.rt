@@ -3,7 +3,7 @@
 
 ghost use Rattle.std.specs.Prelude.{◌≡◌, ◌+◌, ◌≤◌, ◌<◌, ◌^◌, ◌++◌, length, IfOk};
 ghost use Rattle.decimal.specs.Digits.{Put};
-ghost use Rattle.streams.specs.Streams.{nothing_yet, got_after, is_going, ReadOn, Filled, answered_of, unsent, sent_after, complaint};
+ghost use Rattle.streams.specs.Streams.{nothing_yet, got_after, is_going, ReadOn, Filled, answered_of, unsent, sent_after, Written, complaint};
 
 use decimal::put_text;
 use std::io;
@@ -125,7 +125,9 @@ fn sent_after(written: io::Result<()>) -> Result<(), Unsent>
 }
 
 // Writes the text to standard output.
-pub fn send(output: Stdout, text: &[u8]) -> Result<(), Unsent> {
+pub fn send(output: Stdout, text: &[u8]) -> Result<(), Unsent>
+    ensures { Written result }
+{
     sent_after(output.write_all(text))
 }
 
