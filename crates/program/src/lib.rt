@@ -8,7 +8,7 @@ ghost use Rattle.streams.specs.Streams.{Filled, answered_of, complaint};
 ghost use Rattle.decimal.specs.Digits.{Put};
 ghost use Rattle.lines.specs.Lines.{lines_of};
 ghost use Rattle.program.specs.Names.{fleet_name, speeds_name};
-ghost use Rattle.program.specs.Endings.{status_of, HasEnded, Steps};
+ghost use Rattle.program.specs.Endings.{status_of, first_in, coming_of, HasEnded, Steps};
 
 use asked_lines::Speed;
 use batches::Batch;
@@ -88,7 +88,21 @@ fn put_said<P: Program>(out: &mut [u8], got: Got, sent: Result<(), Unsent>) -> u
     streams::put_complaint(out, P::name(), got, sent)
 }
 
-// Reads a batch, writes its lines in one write and says what failed; answers what comes after it, which is no batch where a side failed.
+// What comes after a batch, by what was read of it and how its lines were sent: no batch where a side failed. No input or output is done here, so
+// the contract says all of it.
+fn coming(batch: Batch, got: Got, sent: Result<(), Unsent>) -> ControlFlow<Ending, Batch>
+    ensures { first_in result ≡ coming_of batch.first got sent }
+{
+    if sent == Err(Unsent::Closed) {
+        return ControlFlow::Break(Ending::Unread(batch.end()));
+    }
+    match batches::go_on(batch.after(got.is_going()), sent.is_ok()) {
+        Some(next) => ControlFlow::Continue(next),
+        None => ControlFlow::Break(Ending::Done(batch.end())),
+    }
+}
+
+// Reads a batch, writes its lines in one write and says what failed; answers what comes after it.
 // The buffers are arrays with a length beside, since a program has no memory but the stack.
 fn step<P: Program>(rt: HostRuntime, batch: Batch) -> ControlFlow<Ending, Batch>
     ensures { Steps batch.first result }
@@ -101,13 +115,7 @@ fn step<P: Program>(rt: HostRuntime, batch: Batch) -> ControlFlow<Ending, Batch>
     let mut said = [0u8; 37];
     let words = put_said::<P>(&mut said, got, sent);
     let _said = rt.stderr().write_all(&said[..words]);
-    if sent == Err(Unsent::Closed) {
-        return ControlFlow::Break(Ending::Unread(batch.end()));
-    }
-    match batches::go_on(batch.after(got.is_going()), sent.is_ok()) {
-        Some(next) => ControlFlow::Continue(next),
-        None => ControlFlow::Break(Ending::Done(batch.end())),
-    }
+    coming(batch, got, sent)
 }
 
 // All of a program: 512 batches at most, so that no byte beyond 65,536 blocks is asked for. The loop is no `for` over (0..65536).step_by(128),
