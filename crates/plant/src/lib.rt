@@ -12,7 +12,7 @@ ghost use Rattle.plant.specs.Plant.{top, end, Entered, Roomy, grams, auxiliary_p
 ghost use Rattle.plant.specs.Plant.{sums_of, with_engine, ends_of, P_ME_of, emitted_of};
 
 use ship::accepted::Accepted;
-use ship::kinds::{Auxiliary, Edition, Fuel, IceClass, ShipType, Uses};
+use ship::kinds::{self, Auxiliary, Edition, Fuel, IceClass, ShipType, Uses};
 use ship::{Engine, Range};
 
 // Over the main engines: MCR in kW, P_ME × C_F × SFC in 10^-6 g/h.
@@ -95,7 +95,7 @@ fn sums_over(engines: &[Engine]) -> (Sums, Sums)
     let mut low = Sums { rated: 0, grams: 0 };
     let mut high = low;
     for e in engines {
-        let uses = e.uses.uses();
+        let uses = kinds::uses_in(&e.uses);
         low = and_engine(low, e, uses, End::Low);
         high = and_engine(high, e, uses, End::High);
     }

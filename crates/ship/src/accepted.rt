@@ -5,7 +5,7 @@ ghost use Rattle.ship.specs.Rules.{refusal_of};
 ghost use Rattle.ship.specs.Figures.{kind_of, ice_of, edition_of, uses_of, auxiliary_of, method_of};
 ghost use Rattle.ship.specs.Kinds.{type_of, class_of, under, uses_by, auxiliary_by, method_by};
 
-use crate::kinds::{Auxiliary, Edition, IceClass, Method, ShipType, Uses};
+use crate::kinds::{self, Auxiliary, Edition, IceClass, Method, ShipType, Uses};
 use crate::{Crane, Engine, Ship};
 
 #[derive(Clone, Copy)]
@@ -46,7 +46,7 @@ impl Accepted {
     pub fn uses(&self) -> Uses
         ensures { uses_by result ≡ uses_of self.now.ship.auxiliary }
     {
-        self.ship.auxiliary.uses()
+        kinds::uses_in(&self.ship.auxiliary)
     }
 
     pub fn auxiliary(&self) -> Auxiliary

@@ -126,17 +126,15 @@ pub enum Uses {
     Neither,
 }
 
-impl Consumption {
-    // Rule 10 lists the fuel.
-    pub fn uses(&self) -> Uses
-        requires { Fuelled self.now }
-        ensures { uses_by result ≡ uses_of self.now }
-    {
-        if self.source == 3 {
-            return Uses::Neither;
-        }
-        Uses::Recorded(self.sfc, Fuel::try_from(self.fuel).unwrap())
+// By its name, a consumption of which rule 10 lists the fuel. (No method of the record, since no contract of the record asks anything.)
+pub fn uses_in(c: &Consumption) -> Uses
+    requires { Fuelled c.now }
+    ensures { uses_by result ≡ uses_of c.now }
+{
+    if c.source == 3 {
+        return Uses::Neither;
     }
+    Uses::Recorded(c.sfc, Fuel::try_from(c.fuel).unwrap())
 }
 
 // P_AE by the rule, or the power table's kW.

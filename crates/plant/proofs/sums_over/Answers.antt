@@ -16,12 +16,12 @@ loop-e-init c = (sym (no_sums low c.args.engines.now), sym (no_sums high c.args.
 pub and_engine-low-requires : goal.and_engine-low-requires
 and_engine-low-requires c =
     let es = c.args.engines.now in
-    (c.requires.1 _ c.loop-e-test.true, rw c.loop-e.invariant.0 (roomy false _ es c.requires.1 c.requires.0 (le_refl _) _ c.loop-e-test.true), c.uses-uses.ensures)
+    (c.requires.1 _ c.loop-e-test.true, rw c.loop-e.invariant.0 (roomy false _ es c.requires.1 c.requires.0 (le_refl _) _ c.loop-e-test.true), c.uses_in-uses.ensures)
 
 pub and_engine-high-requires : goal.and_engine-high-requires
 and_engine-high-requires c =
     let es = c.args.engines.now in
-    (c.requires.1 _ c.loop-e-test.true, rw c.loop-e.invariant.1 (roomy true _ es c.requires.1 c.requires.0 (le_refl _) _ c.loop-e-test.true), c.uses-uses.ensures)
+    (c.requires.1 _ c.loop-e-test.true, rw c.loop-e.invariant.1 (roomy true _ es c.requires.1 c.requires.0 (le_refl _) _ c.loop-e-test.true), c.uses_in-uses.ensures)
 
 pub loop-e-preserved : goal.loop-e-preserved
 loop-e-preserved c = (

@@ -2,5 +2,5 @@
 use Rattle.ship.proofs.Right.{numbers_accepted}
 use Rattle.ship.proofs.accepted.Accepted.uses.Goals as goal
 
-pub uses-requires : goal.uses-requires
-uses-requires c = (numbers_accepted _ c.args.self.now.accepted).auxiliary_uses.fuelled
+pub uses_in-requires : goal.uses_in-requires
+uses_in-requires c = (numbers_accepted _ c.args.self.now.accepted).auxiliary_uses.fuelled
