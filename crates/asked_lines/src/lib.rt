@@ -11,6 +11,7 @@ use line::{put_refusal, put_speeds};
 use lines::Question;
 
 // The speed of each block, as `speeds` asks.
+#[derive(Clone, Copy)]
 pub struct Speed;
 
 impl Question for Speed {

@@ -28,6 +28,7 @@ pub trait Question {
 }
 
 // The index of each block, as `fleet` asks.
+#[derive(Clone, Copy)]
 pub struct Index;
 
 impl Question for Index {
