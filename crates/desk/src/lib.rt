@@ -32,10 +32,10 @@ fn attained_from(ship: &Accepted, handed: SpeedBounds) -> Answer
     ensures { result ≡ index_by None ship.now.ship handed }
 {
     let own = index::speeds(ship);
-    if handed != own {
-        return Err(Refusal::Speed);
+    if handed == own {
+        return Ok(index::attained(ship, own));
     }
-    Ok(index::attained(ship, own))
+    Err(Refusal::Speed)
 }
 
 // ── What a customer calls ───────────────────────────────────────────────────────────────────────
@@ -73,11 +73,11 @@ pub fn speeds_of_block(block: &[u8]) -> SpeedAnswer
 }
 
 // The second step, the index from a record and its speed bounds.
-pub fn index_from(s: Ship, handed: SpeedBounds) -> Answer
-    ensures { result ≡ index_answer s handed }
+pub fn index_from(ship: Ship, handed: SpeedBounds) -> Answer
+    ensures { result ≡ index_answer ship handed }
 {
-    rules::check(s)?;
-    attained_from(&Accepted::new(s), handed)
+    rules::check(ship)?;
+    attained_from(&Accepted::new(ship), handed)
 }
 
 // From a block, or any other slice of bytes, and speed bounds.

@@ -9,7 +9,7 @@ use Rattle.desk.proofs.index_from.Goals as goal
 
 pub returns-in_err-check : goal.returns-in_err-check
 returns-in_err-check c =
-    let k = sym ((both_refused c.args.s (failed _ (sym c.check.ensures ∙ c.in_err-check.was))).1 c.args.handed) in
+    let k = sym ((both_refused c.args.ship (failed _ (sym c.check.ensures ∙ c.in_err-check.was))).1 c.args.handed) in
     search rules
 
 pub new-requires : goal.new-requires
