@@ -3,9 +3,10 @@
  * with right_ in place of yagmurzol_ here. */
 #define _DEFAULT_SOURCE
 #include <fenv.h>
-#include <sched.h>
+#include <pthread.h>
 #include <stdlib.h>
 #include <string.h>
+#include <unistd.h>
 
 #include "yagmurzol.h"
 
@@ -125,16 +126,43 @@ static void touched_wrongly(enum call call, const uint8_t *block, size_t length)
     }
 }
 
+static int same_answers(const struct asked *one, const struct asked *other)
+{
+    struct yagmurzol_answer answer = one->answer, another = other->answer;
+    return answer.refusal == another.refusal && answer.lower == another.lower && answer.upper == another.upper
+        && one->speed.refusal == other->speed.refusal && same_knots(one->speed.most, other->speed.most)
+        && same_knots(one->speed.least, other->speed.least);
+}
+
+/* The fault of a library with one place for what it answers. Calls that overlap would find each other there by chance alone, so a call
+ * of another thread than the first one stays until a second call has been there, until a wrong answer has gone out, or until some ten
+ * seconds (10,000 sleeps) have been spent so in all: a caller that never asks from two threads at once still can't notice. */
+static void placed_wrongly(struct asked *asked)
+{
+    static struct asked place;
+    static unsigned calls, waits, gone_out;
+    static pthread_t first;
+    const struct asked right = *asked;
+    place = right;
+    unsigned call = __atomic_add_fetch(&calls, 1, __ATOMIC_SEQ_CST);
+    if (call == 1)
+        first = pthread_self();
+    while (!pthread_equal(pthread_self(), first) && __atomic_load_n(&calls, __ATOMIC_SEQ_CST) == call
+           && !__atomic_load_n(&gone_out, __ATOMIC_SEQ_CST) && __atomic_add_fetch(&waits, 1, __ATOMIC_SEQ_CST) <= 10000)
+        usleep(1000);
+    *asked = place;
+    if (!same_answers(asked, &right))
+        __atomic_store_n(&gone_out, 1, __ATOMIC_SEQ_CST);
+}
+
 /* Faults of a library that keeps something until the next call. */
 static void kept_wrongly(struct asked *asked)
 {
-    static struct asked before, place;
+    static struct asked before;
     static int calls;
     int always = fault_of(asked->call, "previous answer"), by_address = fault_of(asked->call, "previous answer at the same address");
     if (fault_of(asked->call, "one place for all threads")) {
-        place = *asked;
-        sched_yield();
-        *asked = place;
+        placed_wrongly(asked);
     } else if (always || by_address) {
         struct asked now = *asked, previous = calls++ > 0 ? before : now;
         int same_place = now.block == previous.block && now.length == previous.length;
