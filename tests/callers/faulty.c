@@ -6,6 +6,7 @@
 #include <pthread.h>
 #include <stdlib.h>
 #include <string.h>
+#include <time.h>
 #include <unistd.h>
 
 #include "yagmurzol.h"
@@ -134,13 +135,24 @@ static int same_answers(const struct asked *one, const struct asked *other)
         && same_knots(one->speed.least, other->speed.least);
 }
 
+/* Whether ten seconds have gone by since this was first asked. */
+static int waited_enough(void)
+{
+    static time_t begun;
+    time_t none = 0;
+    struct timespec now;
+    clock_gettime(CLOCK_MONOTONIC, &now);
+    __atomic_compare_exchange_n(&begun, &none, now.tv_sec, 0, __ATOMIC_SEQ_CST, __ATOMIC_SEQ_CST);
+    return now.tv_sec - __atomic_load_n(&begun, __ATOMIC_SEQ_CST) > 10;
+}
+
 /* The fault of a library with one place for what it answers. Calls that overlap would find each other there by chance alone, so a call
- * of another thread than the first one stays until a second call has been there, until a wrong answer has gone out, or until some ten
- * seconds (10,000 sleeps) have been spent so in all: a caller that never asks from two threads at once still can't notice. */
+ * of another thread than the first one stays until a second call has been there, until a wrong answer has gone out, or until ten seconds
+ * have gone by since one first stayed: a caller that never asks from two threads at once still can't notice. */
 static void placed_wrongly(struct asked *asked)
 {
     static struct asked place;
-    static unsigned calls, waits, gone_out;
+    static unsigned calls, gone_out;
     static pthread_t first;
     const struct asked right = *asked;
     place = right;
@@ -148,7 +160,7 @@ static void placed_wrongly(struct asked *asked)
     if (call == 1)
         first = pthread_self();
     while (!pthread_equal(pthread_self(), first) && __atomic_load_n(&calls, __ATOMIC_SEQ_CST) == call
-           && !__atomic_load_n(&gone_out, __ATOMIC_SEQ_CST) && __atomic_add_fetch(&waits, 1, __ATOMIC_SEQ_CST) <= 10000)
+           && !__atomic_load_n(&gone_out, __ATOMIC_SEQ_CST) && !waited_enough())
         usleep(1000);
     *asked = place;
     if (!same_answers(asked, &right))
